@@ -1,0 +1,78 @@
+-- A change by key is a change by place: a row set at the place of its key, or one put in where the key would go. This ties `change` to code that
+-- searches for a place and then stores or moves rows. One view of the search (`Spot`) is made by the tests; the laws go by that view. Assumes nothing.
+use mathlib.Core.Path.{_≡_, refl, sym, ap, _∙_}
+use Prim.Native.Nat.{ℕ, zero, suc, _<_, zero-le, suc-le-suc}
+use native.Mathlib.Omega.{arith}
+use mathlib.Core.List.{List, [], _∷_, _++_}
+use mathlib.Core.Option.{Option, none, some}
+use mathlib.Core.Bool.{Bool, true, false, cond}
+use lib.Dec.{ltb, leb·suc-suc}
+use lib.ListN.{length, getD, set, take, drop, take-append-drop}
+use borrow.Author.Tests.{lt-ltb, le-ltb, eq-eqb, ne-eqb}
+use Rattle.priors.specs.Rows.{Row, row, look, front, change}
+use Rattle.priors.specs.Search.{blank, place, holds}
+use Rattle.priors.proofs.Orders.{Side, below, same, above, side, compare-lt, compare-gt, compare-self}
+
+-- how k stands to rows: at the place i, where the row has k or not
+pub data Spot (k : ℕ) : List Row → ℕ → Bool → Type 0 where
+  end : Spot k [] zero false
+  before : {r : Row} {rs : List Row} → k < r .key → Spot k (r ∷ rs) zero false
+  here : {r : Row} {rs : List Row} → k ≡ r .key → Spot k (r ∷ rs) zero true
+  later : {r : Row} {rs : List Row} {i : ℕ} {b : Bool} → r .key < k → Spot k rs i b → Spot k (r ∷ rs) (suc i) b
+
+pub spot : (k : ℕ) (rs : List Row) → Spot k rs (place rs k) (holds rs (place rs k) k)
+unfolding place holds
+spot k [] = end
+spot k (r ∷ rs) = go (side k (r .key)) (spot k rs)
+  where
+    some-rows : ltb 0 (suc (length rs)) ≡ true
+    some-rows = lt-ltb 0 (suc (length rs)) (suc-le-suc zero-le)
+
+    go : Side k (r .key) → Spot k rs (place rs k) (holds rs (place rs k) k) → Spot k (r ∷ rs) (place (r ∷ rs) k) (holds (r ∷ rs) (place (r ∷ rs) k) k)
+    go (below l e) s = rw (le-ltb (r .key) k (omega arith), some-rows, ne-eqb (r .key) k (λ q. omega arith)) (before l)
+    go (same q e) s = rw (le-ltb (r .key) k (omega arith), some-rows, eq-eqb (r .key) k (sym q)) (here q)
+    go (above l e) s = rw (lt-ltb (r .key) k l, leb·suc-suc (suc (place rs k)) (length rs)) (later l s)
+
+-- a row that has the key is there
+pub spot-lt : {k : ℕ} {rs : List Row} {i : ℕ} → Spot k rs i true → i < length rs
+spot-lt (here q) = suc-le-suc zero-le
+spot-lt (later l s) = suc-le-suc (spot-lt s)
+
+-- ---- what a look-up finds, by place
+
+pub look-spot : (k : ℕ) {rs : List Row} {i : ℕ} {b : Bool} → Spot k rs i b → look k rs ≡ cond b (some (getD rs i blank .count)) none
+unfolding look
+look-spot k end = refl
+look-spot k (before {r} l) = rw (compare-lt k (r .key) l)
+look-spot k (here {r} q) = rw (q, compare-self (r .key))
+look-spot k (later {r} l s) = rw (compare-gt k (r .key) l) (look-spot k s)
+
+pub look-place : (k : ℕ) (rs : List Row) → look k rs ≡ cond (holds rs (place rs k) k) (some (getD rs (place rs k) blank .count)) none
+look-place k rs = look-spot k (spot k rs)
+
+-- ---- a change, by place
+
+module _ (new : Option ℕ) (step : ℕ → ℕ) (k : ℕ) where
+  pub change-spot : {rs : List Row} {i : ℕ} {b : Bool} → Spot k rs i b
+      → change new step k rs ≡ cond b (set rs i (row (getD rs i blank .key) (step (getD rs i blank .count)))) (take i rs ++ front k new (drop i rs))
+  unfolding change
+  change-spot end = refl
+  change-spot (before {r} l) = rw (compare-lt k (r .key) l)
+  change-spot (here {r} q) = rw (q, compare-self (r .key))
+  change-spot (later {r} {rs} {i} {b} l s) = rw (compare-gt k (r .key) l) (ap (λ (t : List Row). r ∷ t) (change-spot s) ∙ into b)
+    where
+      into : (b : Bool) → r ∷ cond b (set rs i (row (getD rs i blank .key) (step (getD rs i blank .count)))) (take i rs ++ front k new (drop i rs))
+          ≡ cond b (r ∷ set rs i (row (getD rs i blank .key) (step (getD rs i blank .count)))) (r ∷ take i rs ++ front k new (drop i rs))
+      into true = refl
+      into false = refl
+
+  -- the key is there: its row is set
+  pub change-held : (rs : List Row) → holds rs (place rs k) k ≡ true → change new step k rs ≡ set rs (place rs k) (row (getD rs (place rs k) blank .key) (step (getD rs (place rs k) blank .count)))
+  change-held rs h = change-spot (spot k rs) ∙ rw h
+
+  -- it is missing: a row comes in at the place, or nothing changes
+  pub change-absent : (rs : List Row) → holds rs (place rs k) k ≡ false → change new step k rs ≡ take (place rs k) rs ++ front k new (drop (place rs k) rs)
+  change-absent rs h = change-spot (spot k rs) ∙ rw h
+
+pub change-passed : (step : ℕ → ℕ) (k : ℕ) (rs : List Row) → holds rs (place rs k) k ≡ false → change none step k rs ≡ rs
+change-passed step k rs h = change-absent none step k rs h ∙ take-append-drop (place rs k) rs

@@ -1,0 +1,16 @@
+-- `Fields` has the laws of fields, `Tests` those of comparisons, `Signs` and `Ranks` those of addresses. Then one change of rows (`Orders`, `RowLaws`), when two
+-- lists of rows are equal (`Ext`), and rows by their places (`ByPlace`). `BelowLaws` has the laws of scans, `ChainLaws` and `RecordLaws` those of prior records, `PriorLaws`
+-- what accepted priors tell, `TableLaws` what the bounds of tables are.
+pub mod Fields
+pub mod Tests
+pub mod Signs
+pub mod Ranks
+pub mod Orders
+pub mod RowLaws
+pub mod Ext
+pub mod ByPlace
+pub mod BelowLaws
+pub mod ChainLaws
+pub mod RecordLaws
+pub mod PriorLaws
+pub mod TableLaws

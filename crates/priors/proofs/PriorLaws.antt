@@ -1,0 +1,88 @@
+-- What accepted priors tell: nodes ascend, links rise, and the chain of a node that is found fits, so that its total does. Assumes nothing.
+use mathlib.Core.Path.{_≡_, refl, sym, ap, _∙_}
+use mathlib.Core.Bool.{Bool, true, false, cond}
+use Prim.Native.Nat.{ℕ, zero, suc, _+_, _*_, _^_, _≤_, _<_}
+use native.Mathlib.Omega.{arith}
+use mathlib.Core.List.{List, [], _∷_, map}
+use mathlib.Core.Option.{Option, none, some}
+use lib.Dec.{eqb, leb}
+use lib.ListN.{length, getD}
+use borrow.Author.Tests.{leb-true}
+use Rattle.priors.specs.Limits.{maxChain, maxNodes, maxChildren}
+use Rattle.priors.specs.declared.records.Record.{Record}
+use Rattle.priors.specs.Rows.{row}
+use Rattle.priors.specs.Priors.{recordAt, recordCount, records, ascends, findRecord, chain, chainOf, countSum, total, priorOfNode, wholeRecords, firstLinkFits, nextLinkFits, chainFits, chainAscends, countFits, totalFits, everyNode, everyChild, priorsRefusal}
+use Rattle.priors.proofs.Ranks.{Bytes, word-lt}
+use Rattle.priors.proofs.BelowLaws.{all-at}
+use Rattle.priors.proofs.RecordLaws.{noRecord, length-records, getD-records}
+
+-- a rule that is not the first broken one holds, and so do those after it
+unbroken : (b : Bool) (n rest : ℕ) → cond b rest (suc n) ≡ 0 → (b ≡ true) × (rest ≡ 0)
+unbroken true n rest h = (refl, h)
+unbroken false n rest h = absurd (omega arith)
+
+pub record Accepted (nodes children : List ℕ) : Type 0 where
+  pub ordered : ascends (records nodes) ≡ true
+  pub firsts : everyNode nodes (firstLinkFits nodes children) ≡ true
+  pub rising : everyChild children (nextLinkFits children) ≡ true
+  pub lengths : everyNode nodes (chainFits nodes children) ≡ true
+  pub ascending : everyNode nodes (chainAscends nodes children) ≡ true
+  pub counts : everyChild children (countFits children) ≡ true
+  pub totals : everyNode nodes (totalFits nodes children) ≡ true
+
+module _ (nodes children : List ℕ) where
+  pub accepted : priorsRefusal nodes children ≡ 0 → Accepted nodes children
+  unfolding priorsRefusal
+  accepted h =
+      let a = unbroken (wholeRecords nodes maxNodes) 2 _ h in
+      let b = unbroken (wholeRecords children maxChildren) 2 _ (a .1) in
+      let d = unbroken (ascends (records nodes)) 3 _ (b .1) in
+      let e = unbroken (everyNode nodes (firstLinkFits nodes children)) 4 _ (d .1) in
+      let f = unbroken (everyChild children (nextLinkFits children)) 4 _ (e .1) in
+      let g = unbroken (everyNode nodes (chainFits nodes children)) 4 _ (f .1) in
+      let i = unbroken (everyNode nodes (chainAscends nodes children)) 5 _ (g .1) in
+      let j = unbroken (everyChild children (countFits children)) 6 _ (i .1) in
+      let k = unbroken (everyNode nodes (totalFits nodes children)) 6 _ (j .1) in
+      record { ordered = d .0; firsts = e .0; rising = f .0; lengths = g .0; ascending = i .0; counts = j .0; totals = k .0 }
+
+-- ---- a record that is found is one of the list
+
+found-in : (k : ℕ) (rs : List Record) (r : Record) → findRecord k rs ≡ some r → (i : ℕ) × ((i < length rs) × (getD rs i noRecord ≡ r))
+unfolding findRecord
+found-in k [] r h = let z : _≡_ {A = ℕ} 0 1 = cc in absurd (omega arith)
+found-in k (x ∷ rs) r h = go (eqb (x .rank) k) h (found-in k rs r)
+  where
+    go : (b : Bool) → cond b (some x) (findRecord k rs) ≡ some r → (findRecord k rs ≡ some r → (i : ℕ) × ((i < length rs) × (getD rs i noRecord ≡ r)))
+        → (i : ℕ) × ((i < suc (length rs)) × (getD (x ∷ rs) i noRecord ≡ r))
+    go true h on = (0, (omega arith, cc))
+    go false h on = let p = on h in (suc (p .0), (omega (arith, p .1 .0), p .1 .1))
+
+-- the chain of a node that is found: its first link is a record's number or 0, and it has at most 64 records
+pub record ChainFits (children : List ℕ) (node : Record) : Type 0 where
+  pub link-fits : node .link ≤ recordCount children
+  pub short : length (chainOf children (node .link)) ≤ maxChain
+
+module _ (nodes children : List ℕ) (ok : Accepted nodes children) where
+  pub found-fits : (k : ℕ) (r : Record) → findRecord k (records nodes) ≡ some r → ChainFits children r
+  unfolding firstLinkFits chainFits
+  found-fits k r h =
+      let p = found-in k (records nodes) r h in
+      let l : p .0 < recordCount nodes = omega (arith, length-records nodes, p .1 .0) in
+      let is : recordAt nodes (p .0) ≡ r = sym (getD-records nodes (p .0) l) ∙ p .1 .1 in
+      record {
+        link-fits = rw (ap (λ (x : Record). x .link) is) at (leb-true (recordAt nodes (p .0) .link) (recordCount children) (all-at (firstLinkFits nodes children) (recordCount nodes) (p .0) (ok .firsts) l));
+        short = rw (ap (λ (x : Record). x .link) is) at (leb-true (length (chainOf children (recordAt nodes (p .0) .link))) maxChain (all-at (chainFits nodes children) (recordCount nodes) (p .0) (ok .lengths) l));
+      }
+
+-- ---- totals fit a number of 64 bits: a chain has at most 64 counts of 32 bits
+
+module _ (children : List ℕ) (bytes : Bytes children) where
+  chain-sum : (n link : ℕ) → countSum (map (λ (r : Record). row (r .rank) (r .count)) (chain children n link)) ≤ 2 ^ 32 * length (chain children n link)
+  unfolding chain countSum recordAt
+  chain-sum zero link = omega arith
+  chain-sum (suc n) zero = omega arith
+  chain-sum (suc n) (suc i) = omega (arith, chain-sum n (recordAt children i .link), word-lt children bytes (16 * i + 8))
+
+  pub total-le : (node : Record) → node .count < 2 ^ 32 → ChainFits children node → total (priorOfNode children node) < 2 ^ 32 * 65
+  unfolding total chainOf
+  total-le node small fits = omega (arith, chain-sum (recordCount children) (node .link), fits .short)

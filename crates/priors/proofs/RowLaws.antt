@@ -1,0 +1,129 @@
+-- What a change of one row leaves: what a look-up finds afterwards, the ascent, the length. Touch, bump and fade are three cases of one change, so each law
+-- is proved once; the last part says them for the three. Since a look-up ends at the first row that is not below its key, just where a change is made, only
+-- the law of the ascent itself asks that rows ascend. Assumes nothing.
+use mathlib.Core.Path.{_≡_, refl, sym, _∙_}
+use Prim.Native.Nat.{ℕ, suc, _+_, _-_, _≤_, _<_}
+use mathlib.Core.List.{List, [], _∷_}
+use mathlib.Core.Option.{Option, none, some}
+use native.Mathlib.Omega.{arith}
+use mathlib.Core.Bool.{cond}
+use lib.Dec.{eqb}
+use lib.ListN.{length}
+use Rattle.priors.specs.Rows.{Row, row, keys, Ascends, look, front, change, after, touch, bump, fade, afterTouch, afterBump, afterFade}
+use Rattle.priors.proofs.Orders.{Side, below, same, above, side, compare-lt, compare-self, Alike, alike, unlike, compared}
+
+-- how many rows come in, by what a look-up finds before and what a missing key comes in with
+abbrev pub gained : Option ℕ → Option ℕ → ℕ
+gained none none = 0
+gained none (some c) = 1
+gained (some d) o = 0
+
+module _ (new : Option ℕ) (step : ℕ → ℕ) (k : ℕ) where
+  -- ---- what a look-up finds: for the key itself, and for any other
+
+  look-front : (o : Option ℕ) (rs : List Row) → look k rs ≡ none → look k (front k o rs) ≡ o
+  unfolding look
+  look-front none rs h = h
+  look-front (some c) rs h = rw (compare-self k)
+
+  pub look-here : (rs : List Row) → look k (change new step k rs) ≡ after new step (look k rs)
+  unfolding look change
+  look-here [] = look-front new [] refl
+  look-here (r ∷ rs) = go (side k (r .key)) (look-here rs)
+    where
+      go : Side k (r .key) → look k (change new step k rs) ≡ after new step (look k rs) → look k (change new step k (r ∷ rs)) ≡ after new step (look k (r ∷ rs))
+      go (below l e) ih = rw e (look-front new (r ∷ rs) (rw e))
+      go (same q e) ih = rw e (rw e)
+      go (above l e) ih = rw e (rw e ih)
+
+  module _ (j : ℕ) (differs : j ≡ k → ⊥) where
+    -- a row of k in front of rows that begin above k is not seen
+    look-past : (o : Option ℕ) (rs : List Row) → (j < k → look j rs ≡ none) → look j (front k o rs) ≡ look j rs
+    unfolding look
+    look-past none rs h = refl
+    look-past (some c) rs h = go (side j k)
+      where
+        go : Side j k → look j (row k c ∷ rs) ≡ look j rs
+        go (below l e) = rw e (sym (h l))
+        go (same q e) = absurd (differs q)
+        go (above l e) = rw e
+
+    pub look-other : (rs : List Row) → look j (change new step k rs) ≡ look j rs
+    unfolding look change
+    look-other [] = look-past new [] (λ l. refl)
+    look-other (r ∷ rs) = go (side k (r .key)) (look-other rs)
+      where
+        go : Side k (r .key) → look j (change new step k rs) ≡ look j rs → look j (change new step k (r ∷ rs)) ≡ look j (r ∷ rs)
+        go (below l e) ih = rw e (look-past new (r ∷ rs) (λ (m : j < k). rw (compare-lt j (r .key) (omega arith))))
+        go (same q e) ih = rw e (elsewhere (side j (r .key)))
+          where
+            elsewhere : Side j (r .key) → look j (row (r .key) (step (r .count)) ∷ rs) ≡ look j (r ∷ rs)
+            elsewhere (below l d) = rw d
+            elsewhere (same p d) = absurd (differs (omega arith))
+            elsewhere (above l d) = rw d
+        go (above l e) ih = rw (e, ih)
+
+  -- both in one
+  pub look-change : (j : ℕ) (rs : List Row) → look j (change new step k rs) ≡ cond (eqb j k) (after new step (look j rs)) (look j rs)
+  look-change j rs = go (compared j k)
+    where
+      go : Alike j k → look j (change new step k rs) ≡ cond (eqb j k) (after new step (look j rs)) (look j rs)
+      go (alike q e) = rw (e, q) (look-here rs)
+      go (unlike q e) = rw e (look-other j q rs)
+
+  -- ---- the ascent
+
+  ascends-front : (a : ℕ) (o : Option ℕ) (rs : List Row) → a ≤ k → Ascends (suc k) (keys rs) → Ascends a (keys rs) → Ascends a (keys (front k o rs))
+  ascends-front a none rs l h i = i
+  ascends-front a (some c) rs l h i = (l, h)
+
+  pub ascends-change : (a : ℕ) (rs : List Row) → a ≤ k → Ascends a (keys rs) → Ascends a (keys (change new step k rs))
+  unfolding change
+  ascends-change a [] l h = ascends-front a new [] l tt tt
+  ascends-change a (r ∷ rs) l h = go (side k (r .key)) (ascends-change (suc (r .key)) rs)
+    where
+      go : Side k (r .key) → (r .key < k → Ascends (suc (r .key)) (keys rs) → Ascends (suc (r .key)) (keys (change new step k rs))) → Ascends a (keys (change new step k (r ∷ rs)))
+      go (below m e) ih = rw e (ascends-front a new (r ∷ rs) l (m, h .1) h)
+      go (same q e) ih = rw e h
+      go (above m e) ih = rw e (h .0, ih m (h .1))
+
+  -- ---- the length
+
+  length-front : (o : Option ℕ) (rs : List Row) → length (front k o rs) ≡ length rs + gained none o
+  length-front none rs = omega arith
+  length-front (some c) rs = omega arith
+
+  pub length-change : (rs : List Row) → length (change new step k rs) ≡ length rs + gained (look k rs) new
+  unfolding look change
+  length-change [] = length-front new []
+  length-change (r ∷ rs) = go (side k (r .key)) (length-change rs)
+    where
+      go : Side k (r .key) → length (change new step k rs) ≡ length rs + gained (look k rs) new → length (change new step k (r ∷ rs)) ≡ length (r ∷ rs) + gained (look k (r ∷ rs)) new
+      go (below m e) ih = rw e (length-front new (r ∷ rs))
+      go (same q e) ih = rw e (omega arith)
+      go (above m e) ih = rw e (omega arith)
+
+-- ---- the three changes
+
+module _ (k : ℕ) (rs : List Row) where
+  pub look-touch : look k (touch k rs) ≡ afterTouch (look k rs)
+  look-touch = look-here (some 0) (λ c. c) k rs
+
+  pub look-bump : look k (bump k rs) ≡ afterBump (look k rs)
+  look-bump = look-here (some 1) (λ c. c + 1) k rs
+
+  pub look-fade : look k (fade k rs) ≡ afterFade (look k rs)
+  look-fade = look-here none (λ c. c - 1) k rs
+
+  pub length-touch : length (touch k rs) ≡ length rs + gained (look k rs) (some 0)
+  length-touch = length-change (some 0) (λ c. c) k rs
+
+  pub length-bump : length (bump k rs) ≡ length rs + gained (look k rs) (some 1)
+  length-bump = length-change (some 1) (λ c. c + 1) k rs
+
+  pub length-fade : length (fade k rs) ≡ length rs
+  length-fade = length-change none (λ c. c - 1) k rs ∙ go (look k rs)
+    where
+      go : (o : Option ℕ) → length rs + gained o none ≡ length rs
+      go none = omega arith
+      go (some c) = omega arith

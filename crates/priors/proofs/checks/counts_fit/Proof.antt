@@ -1,0 +1,62 @@
+use mathlib.Core.Path.{_≡_, sym, ap, _∙_}
+use native.Mathlib.Omega.{arith}
+use mathlib.Core.Bool.{true}
+use Prim.Native.Nat.{ℕ, _-_, _≤_}
+use native.Mathlib.Numerals.{add-one}
+use borrow.Author.Tests.{lt-ltb, le-ltb}
+use Rattle.priors.specs.Below.{allBelow}
+use Rattle.priors.specs.declared.records.Record.{Record}
+use Rattle.priors.specs.Priors.{recordAt, recordCount, countFits}
+use Rattle.priors.proofs.BelowLaws.{all-none, all-more, all-fails}
+use borrow.Author.Needs.{needs}
+use Rattle.priors.proofs.checks.counts_fit.Statement.{statement}
+use Rattle.priors.proofs.checks.counts_fit.Tie as tie
+
+abbrev Inv-loop : tie.InvT-loop
+Inv-loop children m i₀ i = (i ≤ m) × (allBelow i (countFits children) ≡ true)
+
+abbrev μ-loop : tie.MeasureT-loop
+μ-loop children m i₀ i = m - i
+
+loop-holds : tie.Need-loop-holds Inv-loop μ-loop
+loop-holds c = (search needs, all-none _)
+
+record-at-requires : tie.Need-record-at-requires Inv-loop μ-loop
+record-at-requires c κs = search needs
+
+returns : tie.Need-returns Inv-loop μ-loop
+unfolding countFits
+returns c =
+    let i = c .before .before .before .before .loop .i in
+    sym (all-fails (countFits (c .before .before .before .before .before .before .args .children .now)) (recordCount (c .before .before .before .before .before .before .args .children .now)) i (omega arith) (le-ltb 0 (recordAt (c .before .before .before .before .before .before .args .children .now) i .count) (omega (arith, ap (λ (r : Record). r .count) (c .before .before .record-at .ensures)))))
+
+add-i : tie.Need-add-i Inv-loop μ-loop
+add-i c = search needs
+
+loop-less : tie.Need-loop-less Inv-loop μ-loop
+loop-less c = search needs
+
+loop-again : tie.Need-loop-again Inv-loop μ-loop
+unfolding countFits
+loop-again c =
+    let i = c .before .before .before .before .loop .i in
+    (omega arith, rw add-one (all-more (countFits (c .before .before .before .before .before .before .args .children .now)) i (c .before .before .before .before .loop .inv .1) (lt-ltb 0 (recordAt (c .before .before .before .before .before .before .args .children .now) i .count) (omega (arith, ap (λ (r : Record). r .count) (c .before .before .record-at .ensures))))))
+
+returns-2 : tie.Need-returns-2 Inv-loop μ-loop
+returns-2 c =
+    let e : c .before .loop .i ≡ recordCount (c .before .before .before .args .children .now) = omega arith in
+    sym (ap (λ (n : ℕ). allBelow n (countFits (c .before .before .before .args .children .now))) (sym e) ∙ c .before .loop .inv .1)
+
+pub counts-fit-spec : {M : Type 1} → statement M
+counts-fit-spec =
+    tie.close
+    (tie.spec
+    Inv-loop
+    μ-loop
+    loop-holds
+    record-at-requires
+    returns
+    add-i
+    loop-less
+    loop-again
+    returns-2)
