@@ -1,0 +1,96 @@
+//! Calls as data, each with all its arguments.
+
+use recount::{Address, LentPriors, LentTables, Output};
+
+/// Lent tables, owned.
+#[derive(Debug, Clone, Default)]
+pub struct Tables {
+    /// ln gamma.
+    pub g: Vec<f64>,
+    /// digamma.
+    pub d: Vec<f64>,
+}
+
+impl Tables {
+    /// The tables as lent.
+    pub fn lent(&self) -> LentTables<'_> {
+        LentTables { g: &self.g, d: &self.d }
+    }
+}
+
+/// Lent priors, owned.
+#[derive(Debug, Clone, Default, PartialEq, Eq)]
+pub struct PriorBytes {
+    /// The node records.
+    pub nodes: Vec<u8>,
+    /// The child records.
+    pub children: Vec<u8>,
+}
+
+impl PriorBytes {
+    /// The priors as lent.
+    pub fn lent(&self) -> LentPriors<'_> {
+        LentPriors { nodes: &self.nodes, children: &self.children }
+    }
+}
+
+/// Output places, owned.
+#[derive(Debug, Clone, Default)]
+pub struct Places {
+    /// Eight bytes a place.
+    pub addresses: Vec<u8>,
+    /// One figure a place.
+    pub figures: Vec<f64>,
+}
+
+impl Places {
+    /// The places as lent.
+    pub fn lent(&mut self) -> Output<'_> {
+        Output { addresses: &mut self.addresses, figures: &mut self.figures }
+    }
+}
+
+/// One call. The two lendings are no calls of 01: what they carry is lent to the readings
+/// that follow.
+#[derive(Debug, Clone)]
+pub enum Call {
+    /// An opening, with the lengths of book and queue.
+    Open { window: u32, book_len: usize, queue_len: usize },
+    /// An add of a path's bytes.
+    Add { path: Vec<u8> },
+    /// Lends tables.
+    LendTables(Tables),
+    /// Lends priors.
+    LendPriors(PriorBytes),
+    /// `prob_vector`.
+    ProbVector { node: Address, output: Places },
+    /// `evidence_prob_vector`.
+    EvidenceProbVector { node: Address, output: Places },
+    /// `posterior_kl_divergence`.
+    PosteriorKlDivergence { node: Address },
+    /// `all_node_kl`.
+    AllNodeKl { output: Places },
+    /// `kl_div_stats`.
+    KlDivStats,
+}
+
+impl Call {
+    /// The output places of a reading that has some.
+    pub fn output(&mut self) -> Option<&mut Places> {
+        match self {
+            Call::ProbVector { output, .. }
+            | Call::EvidenceProbVector { output, .. }
+            | Call::AllNodeKl { output } => Some(output),
+            _ => None,
+        }
+    }
+}
+
+/// A list of calls on one tracker, whose memory holds `fill` everywhere at first.
+#[derive(Debug, Clone)]
+pub struct CallList {
+    /// What each byte of book and queue is before the first opening.
+    pub fill: u8,
+    /// The calls.
+    pub calls: Vec<Call>,
+}

@@ -1,0 +1,47 @@
+//! Addresses and paths. Few addresses, so that repeats, self-transitions, counts fallen to
+//! zero and full books come up; scales of both signs, parts at the ends of their ranges.
+
+use crate::rng::Rng;
+use recount::{path_bytes, Address};
+
+const SCALES: [i32; 8] = [-3, -2, -1, 0, 1, 2, i32::MIN, i32::MAX];
+const POINTS: [u32; 8] = [0, 1, 2, 9, 255, 256, 0x8000_0000, u32::MAX];
+
+/// An address that no universe holds.
+pub const FOREIGN: Address = Address::new(5, 5);
+
+/// `count` different addresses, at most 64.
+pub fn universe(rng: &mut Rng, count: usize) -> Vec<Address> {
+    let mut addresses: Vec<Address> = Vec::new();
+    while addresses.len() < count {
+        let address = Address::new(rng.pick(&SCALES), rng.pick(&POINTS));
+        if !addresses.contains(&address) {
+            addresses.push(address);
+        }
+    }
+    addresses
+}
+
+/// A path of 1 to `most` steps over the universe; every fifth step repeats the one before.
+pub fn path(rng: &mut Rng, universe: &[Address], most: usize) -> Vec<Address> {
+    let mut path = vec![rng.pick(universe)];
+    for _ in 1..rng.between(1, most) {
+        let last = path[path.len() - 1];
+        path.push(if rng.chance(20) { last } else { rng.pick(universe) });
+    }
+    path
+}
+
+/// A path's bytes; in `bad` of a hundred cases one of the lengths around the limits.
+pub fn lent_path(rng: &mut Rng, universe: &[Address], most: usize, bad: usize) -> Vec<u8> {
+    if !rng.chance(bad) {
+        return path_bytes(&path(rng, universe, most));
+    }
+    let length = rng.pick(&[0, 1, 7, 9, 504, 511, 512, 513, 519, 520]);
+    let mut bytes = Vec::new();
+    while bytes.len() < length {
+        bytes.extend(rng.pick(universe).bytes());
+    }
+    bytes.truncate(length);
+    bytes
+}

@@ -1,0 +1,179 @@
+//! Plays calls: `History` is the recount, `Bytes` carries the calls out on lent memory. Both
+//! show their state, book and queue after any call.
+
+use crate::calls::{Call, Places, PriorBytes, Tables};
+use recount::{
+    all_node_kl, evidence_prob_vector, kl_div_stats, memory, posterior_kl_divergence, prob_vector, Evidence,
+    KLDivergenceStats, Memory, NodeKlList, ProbVector, Recount, Refusal, State, Tracker,
+};
+
+/// A tracker that calls can be played on. Before the first accepted opening its state is all
+/// zero and it has no bytes; readings and adds come only after one.
+pub trait Side: Tracker {
+    /// An opening.
+    fn open(&mut self, window: u32, book_len: usize, queue_len: usize) -> Result<(), Refusal>;
+    /// An add.
+    fn add_path(&mut self, path: &[u8]) -> Result<(), Refusal>;
+    /// The state.
+    fn state(&self) -> State;
+    /// The book.
+    fn book(&self) -> Vec<u8>;
+    /// The queue.
+    fn queue(&self) -> Vec<u8>;
+}
+
+/// The recount's side.
+#[derive(Debug, Default)]
+pub struct History(Option<Recount>);
+
+impl History {
+    fn opened(&self) -> &Recount {
+        self.0.as_ref().expect("calls come after an accepted opening")
+    }
+}
+
+impl Tracker for History {
+    fn evidence(&self) -> Result<Evidence, Refusal> {
+        self.opened().evidence()
+    }
+}
+
+impl Side for History {
+    fn open(&mut self, window: u32, book_len: usize, queue_len: usize) -> Result<(), Refusal> {
+        self.0 = Some(Recount::open(window, book_len, queue_len)?);
+        Ok(())
+    }
+    fn add_path(&mut self, path: &[u8]) -> Result<(), Refusal> {
+        self.0.as_mut().expect("adds come after an accepted opening").add_path(path)
+    }
+    fn state(&self) -> State {
+        self.0.as_ref().map(Recount::state).unwrap_or_default()
+    }
+    fn book(&self) -> Vec<u8> {
+        self.0.as_ref().map(Recount::book).unwrap_or_default()
+    }
+    fn queue(&self) -> Vec<u8> {
+        self.0.as_ref().map(Recount::queue).unwrap_or_default()
+    }
+}
+
+/// The lent bytes' side. The buffers only grow; a tracker has the front of each, as long as
+/// its opening says.
+#[derive(Debug)]
+pub struct Bytes {
+    fill: u8,
+    state: State,
+    book: Vec<u8>,
+    queue: Vec<u8>,
+    book_len: usize,
+    queue_len: usize,
+}
+
+impl Bytes {
+    /// Memory that holds `fill` everywhere.
+    pub fn filled(fill: u8) -> Bytes {
+        let (book, queue) = (Vec::new(), Vec::new());
+        Bytes { fill, state: State::default(), book, queue, book_len: 0, queue_len: 0 }
+    }
+}
+
+impl Tracker for Bytes {
+    fn evidence(&self) -> Result<Evidence, Refusal> {
+        let (book, queue) = (&self.book[..self.book_len], &self.queue[..self.queue_len]);
+        Memory { state: self.state, book, queue }.evidence()
+    }
+}
+
+impl Side for Bytes {
+    fn open(&mut self, window: u32, book_len: usize, queue_len: usize) -> Result<(), Refusal> {
+        self.book.resize(self.book.len().max(book_len), self.fill);
+        self.queue.resize(self.queue.len().max(queue_len), self.fill);
+        self.state = memory::open(window, &mut self.book[..book_len], &mut self.queue[..queue_len])?;
+        (self.book_len, self.queue_len) = (book_len, queue_len);
+        Ok(())
+    }
+    fn add_path(&mut self, path: &[u8]) -> Result<(), Refusal> {
+        let (book, queue) = (&mut self.book[..self.book_len], &mut self.queue[..self.queue_len]);
+        self.state = memory::add_path(self.state, book, queue, path)?;
+        Ok(())
+    }
+    fn state(&self) -> State {
+        self.state
+    }
+    fn book(&self) -> Vec<u8> {
+        self.book[..self.book_len].to_vec()
+    }
+    fn queue(&self) -> Vec<u8> {
+        self.queue[..self.queue_len].to_vec()
+    }
+}
+
+/// What a call gives, with its output places afterwards.
+#[derive(Debug, Clone)]
+pub enum Answer {
+    /// To a lending.
+    Lent,
+    /// To an opening or an add.
+    Changed(Result<(), Refusal>),
+    /// To a probability vector.
+    Vector(Result<Option<ProbVector>, Refusal>, Places),
+    /// To one node's divergence.
+    Divergence(Result<Option<f64>, Refusal>),
+    /// To all nodes' divergences.
+    List(Result<NodeKlList, Refusal>, Places),
+    /// To the statistics.
+    Stats(Result<KLDivergenceStats, Refusal>),
+}
+
+/// A side with what is lent to its readings.
+#[derive(Debug)]
+pub struct Player<S> {
+    /// The tracker.
+    pub side: S,
+    /// The tables lent last.
+    pub tables: Tables,
+    /// The priors lent last.
+    pub priors: PriorBytes,
+}
+
+impl<S: Side> Player<S> {
+    /// A side with nothing lent yet.
+    pub fn new(side: S) -> Player<S> {
+        Player { side, tables: Tables::default(), priors: PriorBytes::default() }
+    }
+
+    /// Carries out one call.
+    pub fn play(&mut self, call: &Call) -> Answer {
+        let (side, tables, priors) = (&self.side, self.tables.lent(), self.priors.lent());
+        match call {
+            Call::Open { window, book_len, queue_len } => {
+                Answer::Changed(self.side.open(*window, *book_len, *queue_len))
+            }
+            Call::Add { path } => Answer::Changed(self.side.add_path(path)),
+            Call::LendTables(tables) => {
+                self.tables = tables.clone();
+                Answer::Lent
+            }
+            Call::LendPriors(priors) => {
+                self.priors = priors.clone();
+                Answer::Lent
+            }
+            Call::ProbVector { node, output } => {
+                let mut output = output.clone();
+                Answer::Vector(prob_vector(side, priors, *node, &mut output.lent()), output)
+            }
+            Call::EvidenceProbVector { node, output } => {
+                let mut output = output.clone();
+                Answer::Vector(evidence_prob_vector(side, *node, &mut output.lent()), output)
+            }
+            Call::PosteriorKlDivergence { node } => {
+                Answer::Divergence(posterior_kl_divergence(side, tables, priors, *node))
+            }
+            Call::AllNodeKl { output } => {
+                let mut output = output.clone();
+                Answer::List(all_node_kl(side, tables, priors, &mut output.lent()), output)
+            }
+            Call::KlDivStats => Answer::Stats(kl_div_stats(side, tables, priors)),
+        }
+    }
+}

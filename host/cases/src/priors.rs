@@ -1,0 +1,168 @@
+//! Priors: whole ones that know every child, ones that lack nodes and children, with chains
+//! that interleave and share tails, and damaged ones.
+
+use crate::calls::PriorBytes;
+use crate::rng::Rng;
+use recount::Address;
+use std::ops::Range;
+
+/// One record of either kind.
+#[derive(Clone, Copy)]
+struct Record {
+    address: Address,
+    count: u32,
+    link: u32,
+}
+
+/// Priors before they become bytes.
+struct Records {
+    nodes: Vec<Record>,
+    children: Vec<Record>,
+}
+
+impl Records {
+    fn bytes(&self) -> PriorBytes {
+        PriorBytes { nodes: record_bytes(&self.nodes), children: record_bytes(&self.children) }
+    }
+}
+
+fn record_bytes(records: &[Record]) -> Vec<u8> {
+    let bytes = |record: &Record| {
+        let mut bytes = record.address.bytes().to_vec();
+        bytes.extend(record.count.to_le_bytes());
+        bytes.extend(record.link.to_le_bytes());
+        bytes
+    };
+    records.iter().flat_map(bytes).collect()
+}
+
+/// Every node of the universe with every child, so that nothing gives 14. Counts are 1 to
+/// `most`, singletons 0 to `most`.
+pub fn whole(rng: &mut Rng, universe: &[Address], most: usize) -> PriorBytes {
+    records(rng, universe, most, (100, 100)).bytes()
+}
+
+/// Some nodes only, each with every child: nodes are skipped, and nothing gives 14.
+pub fn fewer_nodes(rng: &mut Rng, universe: &[Address], most: usize) -> PriorBytes {
+    records(rng, universe, most, (60, 100)).bytes()
+}
+
+/// Each node and each child with a chance of `percent`; chains may go on in one another.
+pub fn sparse(rng: &mut Rng, universe: &[Address], most: usize, percent: usize) -> PriorBytes {
+    let mut records = records(rng, universe, most, (percent, percent));
+    share_tails(rng, &mut records);
+    records.bytes()
+}
+
+/// Nodes and children, each kind with its own chance in a hundred.
+fn records(rng: &mut Rng, universe: &[Address], most: usize, (nodes, children): (usize, usize)) -> Records {
+    let mut sorted = universe.to_vec();
+    sorted.sort();
+    let mut records = Records { nodes: Vec::new(), children: Vec::new() };
+    let mut chains: Vec<(usize, Vec<Address>)> = Vec::new();
+    for address in &sorted {
+        if rng.chance(nodes) {
+            let chain: Vec<Address> = sorted.iter().filter(|_| rng.chance(children)).copied().collect();
+            let least = usize::from(chain.is_empty());
+            let count = rng.between(least, most) as u32;
+            chains.push((records.nodes.len(), chain));
+            records.nodes.push(Record { address: *address, count, link: 0 });
+        }
+    }
+    lay_out(rng, &mut records, chains, most);
+    records
+}
+
+/// Puts the chains' records down in a random mixture, each chain in its own order.
+fn lay_out(rng: &mut Rng, records: &mut Records, mut chains: Vec<(usize, Vec<Address>)>, most: usize) {
+    let mut last_of_node: Vec<Option<usize>> = vec![None; records.nodes.len()];
+    chains.retain(|(_, chain)| !chain.is_empty());
+    while !chains.is_empty() {
+        let index = rng.below(chains.len());
+        let (node, chain) = &mut chains[index];
+        let count = rng.between(1, most) as u32;
+        records.children.push(Record { address: chain.remove(0), count, link: 0 });
+        let number = records.children.len() as u32;
+        match last_of_node[*node] {
+            None => records.nodes[*node].link = number,
+            Some(last) => records.children[last].link = number,
+        }
+        last_of_node[*node] = Some(number as usize - 1);
+        chains.retain(|(_, chain)| !chain.is_empty());
+    }
+}
+
+/// Lets some chains go on at a later record with a higher address, and some nodes without
+/// children begin at any record.
+fn share_tails(rng: &mut Rng, records: &mut Records) {
+    let total = records.children.len();
+    for index in 0..total {
+        let own = records.children[index];
+        let later = (index + 1..total).find(|later| records.children[*later].address > own.address);
+        if own.link == 0 && rng.chance(15) {
+            records.children[index].link = later.map_or(0, |later| later as u32 + 1);
+        }
+    }
+    for node in &mut records.nodes {
+        if node.link == 0 && total > 0 && rng.chance(50) {
+            node.link = rng.between(1, total) as u32;
+        }
+    }
+}
+
+/// Good priors with one thing changed, often to something that 3 to 7 refuse.
+pub fn damaged(rng: &mut Rng, universe: &[Address]) -> PriorBytes {
+    let mut priors = sparse(rng, universe, 4, 70);
+    match rng.below(10) {
+        0 | 1 => swap_fields(rng, &mut priors.children, 0..8),
+        2 => set_field(rng, &mut priors.children, 2),
+        3 => set_field(rng, &mut priors.children, 3),
+        _ => damage_either(rng, &mut priors),
+    }
+    priors
+}
+
+fn damage_either(rng: &mut Rng, priors: &mut PriorBytes) {
+    let bytes = if rng.chance(50) { &mut priors.nodes } else { &mut priors.children };
+    match rng.below(6) {
+        0 => bytes.truncate(bytes.len().saturating_sub(rng.between(1, 17))),
+        1 => bytes.push(0),
+        2 => swap_fields(rng, bytes, 0..16),
+        3 => bytes.extend_from_within(..bytes.len().min(16)),
+        _ => {
+            let field = rng.below(4);
+            set_field(rng, bytes, field);
+        }
+    }
+}
+
+/// Swaps the same bytes of two records.
+fn swap_fields(rng: &mut Rng, bytes: &mut [u8], part: Range<usize>) {
+    let total = bytes.len() / 16;
+    if total > 1 {
+        let (one, other) = (16 * rng.below(total), 16 * rng.below(total));
+        part.for_each(|at| bytes.swap(one + at, other + at));
+    }
+}
+
+/// Sets a field of some record to a value around the limits.
+fn set_field(rng: &mut Rng, bytes: &mut [u8], field: usize) {
+    let total = bytes.len() / 16;
+    if total > 0 {
+        let start = 16 * rng.below(total) + 4 * field;
+        let value = rng.pick(&[0, 0, 0, 1, 2, total as u32, total as u32 + 1, u32::MAX]);
+        bytes[start..start + 4].copy_from_slice(&value.to_le_bytes());
+    }
+}
+
+/// One node whose chain has `length` children, for the limit of 64.
+pub fn long_chain(length: usize) -> PriorBytes {
+    let child = |index: usize| Record {
+        address: Address::new(0, index as u32),
+        count: 1,
+        link: if index + 1 < length { index as u32 + 2 } else { 0 },
+    };
+    let children = (0..length).map(child).collect();
+    let nodes = vec![Record { address: Address::new(1, 0), count: 0, link: 1 }];
+    Records { nodes, children }.bytes()
+}

@@ -1,0 +1,210 @@
+//! What the recount must do by itself, goko or not: its two parts agree byte for byte on
+//! every list, a refused call changes nothing that is lent, an answer leaves the places past
+//! it alone, and an add on altered memory changes what it may and nothing else.
+
+use crate::{Compared, Tally};
+use cases::altered::AlteredAdd;
+use cases::baselines::Training;
+use cases::calls::{Call, CallList, Places};
+use cases::play::{Answer, Bytes, History, Player, Side};
+use cases::rng::Rng;
+use cases::{paths, priors};
+use recount::limits::{ENTRY_BYTES, MAX_CHAIN, MAX_COUNT, PLACE_BYTES};
+use recount::{check_priors, evidence_prob_vector, memory, Address, Memory, Output, Refusal, State, Tracker};
+
+fn must(holds: bool, what: &str) -> Compared {
+    if holds {
+        Ok(())
+    } else {
+        Err(what.to_string())
+    }
+}
+
+/// State, book and queue of a side.
+fn shown(side: &impl Side) -> (State, Vec<u8>, Vec<u8>) {
+    (side.state(), side.book(), side.queue())
+}
+
+/// Plays a list on the history and on lent bytes.
+pub fn check_list(list: &CallList, tally: &mut Tally) -> Compared {
+    let mut history = Player::new(History::default());
+    let mut bytes = Player::new(Bytes::filled(list.fill));
+    for (index, call) in list.calls.iter().enumerate() {
+        check_call(&mut history, &mut bytes, call, tally)
+            .map_err(|text| format!("call {} of {:#?}\n{}", index, list, text))?;
+    }
+    Ok(())
+}
+
+fn check_call(
+    history: &mut Player<History>,
+    bytes: &mut Player<Bytes>,
+    call: &Call,
+    tally: &mut Tally,
+) -> Compared {
+    let before = shown(&bytes.side);
+    let answer = bytes.play(call);
+    count_answer(&answer, tally);
+    let recounted = history.play(call);
+    let (left, right) = (format!("{:?}", recounted), format!("{:?}", answer));
+    must(left == right, &format!("the history answers {}, the bytes {}", left, right))?;
+    let after = shown(&bytes.side);
+    match answer {
+        Answer::Changed(Ok(())) => {
+            must(after == shown(&history.side), "state, book or queue is no image of the history")
+        }
+        answer => {
+            must(after == before, "a refused call or a reading changed the tracker")?;
+            check_output(call, &answer)
+        }
+    }
+}
+
+fn count_answer(answer: &Answer, tally: &mut Tally) {
+    match answer {
+        Answer::Lent => {}
+        Answer::Changed(result) => tally.result(result),
+        Answer::Vector(result, _) => tally.result(result),
+        Answer::Divergence(result) => tally.result(result),
+        Answer::List(result, _) => tally.result(result),
+        Answer::Stats(result) => tally.result(result),
+    }
+}
+
+/// A reading fills places from 0 up and leaves the others; a refused one fills none.
+fn check_output(call: &Call, answer: &Answer) -> Compared {
+    let (lent, left, filled) = match (call, answer) {
+        (
+            Call::ProbVector { output, .. } | Call::EvidenceProbVector { output, .. },
+            Answer::Vector(answer, left),
+        ) => (output, left, answer.ok().flatten().map_or(0, |vector| vector.places)),
+        (Call::AllNodeKl { output }, Answer::List(answer, left)) => {
+            (output, left, answer.map_or(0, |list| list.places))
+        }
+        _ => return Ok(()),
+    };
+    must(past(lent, filled) == past(left, filled), "places past the answer changed")
+}
+
+fn past(places: &Places, filled: u32) -> (Vec<u8>, Vec<u64>) {
+    let filled = filled as usize;
+    let figures = places.figures[filled..].iter().map(|figure| figure.to_bits()).collect();
+    (places.addresses[8 * filled..].to_vec(), figures)
+}
+
+/// An add on altered memory.
+pub fn check_altered(add: &AlteredAdd, tally: &mut Tally) -> Compared {
+    let (mut book, mut queue) = (add.book.clone(), add.queue.clone());
+    let lent = Memory { state: add.state, book: &book, queue: &queue };
+    let in_form = lent.form_holds();
+    check_reading(&lent, in_form)?;
+    let answer = memory::add_path(add.state, &mut book, &mut queue, &add.path);
+    tally.altered += 1;
+    tally.result(&answer);
+    match answer {
+        Err(refusal) => {
+            must((refusal.number == 9) != in_form, "9 is not the form test's answer")?;
+            must(book == add.book && queue == add.queue, "a refused add changed book or queue")
+        }
+        Ok(state) => check_accepted(add, state, &book, &queue),
+    }
+    .map_err(|text| format!("{:?}\n{}", add, text))
+}
+
+/// A reading of altered memory is refused with 9 just where the form is broken, and then
+/// fills nothing.
+fn check_reading(lent: &Memory, in_form: bool) -> Compared {
+    let node = lent.book.get(..8).map(Address::read).unwrap_or_default();
+    let (mut addresses, mut figures) = ([0x11; 80], [-1.0; 10]);
+    let mut output = Output { addresses: &mut addresses, figures: &mut figures };
+    let answer = evidence_prob_vector(lent, node, &mut output);
+    must(
+        matches!(answer, Err(Refusal { number: 9, .. })) != in_form,
+        "a reading's 9 is not the form test's answer",
+    )?;
+    must(in_form || (addresses == [0x11; 80] && figures == [-1.0; 10]), "a refused reading filled places")?;
+    let total: f64 = answer
+        .ok()
+        .flatten()
+        .map_or(1.0, |vector| vector.ending + figures[..vector.places as usize].iter().sum::<f64>());
+    must((total - 1.0).abs() < 1.0e-9, "probabilities add up to 1")
+}
+
+fn check_accepted(add: &AlteredAdd, state: State, book: &[u8], queue: &[u8]) -> Compared {
+    must(state.window == add.state.window && state.accepted == add.state.accepted + 1, "state after an add")?;
+    must(state.used >= add.state.used, "an entry was dropped")?;
+    let used = ENTRY_BYTES * state.used as usize;
+    must(book[used..] == add.book[used..], "book bytes past the used entries changed")?;
+    let place = add.state.accepted.checked_rem(state.window).map(|place| PLACE_BYTES * place as usize);
+    for (index, (now, then)) in queue.iter().zip(&add.queue).enumerate() {
+        let written = place.is_some_and(|start| (start..start + PLACE_BYTES).contains(&index));
+        must(written || now == then, "a queue byte outside the path's place changed")?;
+    }
+    if let Some(start) = place {
+        let length = (add.path.len() / 8) as u32;
+        must(queue[start..start + 4] == length.to_le_bytes(), "the place's length")?;
+        must(queue[start + 4..].starts_with(&add.path), "the place's steps")?;
+        let rest = &queue[start + 4 + add.path.len()..start + PLACE_BYTES];
+        must(rest.iter().all(|byte| *byte == 0), "the place's zeros")?;
+    }
+    let grown = book[..used].chunks(ENTRY_BYTES).any(|entry| count(entry) > MAX_COUNT);
+    let after = Memory { state, book, queue };
+    must(after.form_holds() != grown, "the form after an add breaks only by a count past 2^30")?;
+    must(grown == matches!(after.evidence(), Err(Refusal { number: 9, .. })), "a reading of a broken form")
+}
+
+fn count(entry: &[u8]) -> u32 {
+    u32::from_le_bytes([entry[20], entry[21], entry[22], entry[23]])
+}
+
+/// A training: refused before its work it changes nothing, stopped it leaves zeros.
+pub fn check_training(training: &Training, tally: &mut Tally) -> Compared {
+    let mut after = training.clone();
+    let figures = |values: &[f64]| values.iter().map(|value| value.to_bits()).collect::<Vec<u64>>();
+    let zero_book = |book: &[u8]| book.iter().all(|byte| *byte == 0);
+    let answer = after.run();
+    tally.result(&answer);
+    match answer {
+        Ok(count) => {
+            let count = count as usize;
+            must(zero_book(&after.book), "the book is not all zero after a training")?;
+            must(after.knots[count..] == training.knots[count..], "knots past the answer changed")?;
+            let (left, lent) = (&after.values[10 * count..], &training.values[10 * count..]);
+            must(figures(left) == figures(lent), "values past the answer changed")
+        }
+        Err(Refusal { number: 10 | 12 | 14 | 15, .. }) => {
+            must(zero_book(&after.book), "the book is not all zero after a stop")?;
+            must(after.knots.iter().all(|knot| *knot == 0), "knots are not zero after a stop")?;
+            must(figures(&after.values).iter().all(|bits| *bits == 0), "values are not zero after a stop")
+        }
+        Err(_) => {
+            must(
+                after.book == training.book && after.knots == training.knots,
+                "a refused training changed something",
+            )?;
+            must(figures(&after.values) == figures(&training.values), "a refused training changed values")
+        }
+    }
+    .map_err(|text| format!("{:#?}\n{}", training, text))
+}
+
+/// Damaged priors get a number from 3 to 7, or are in order after all.
+pub fn check_prior_cases(rng: &mut Rng, tally: &mut Tally) -> Compared {
+    let count = rng.between(1, 5);
+    let universe = paths::universe(rng, count);
+    let lent = priors::damaged(rng, &universe);
+    let answer = check_priors(lent.lent());
+    tally.result(&answer);
+    match answer {
+        Err(refusal) => must((3..=7).contains(&refusal.number), "priors are refused with 3 to 7"),
+        Ok(checked) => {
+            let ascending = checked.nodes.windows(2).all(|pair| pair[0].address < pair[1].address);
+            let in_order = |prior: &recount::Prior| {
+                prior.children.len() <= MAX_CHAIN
+                    && prior.children.windows(2).all(|pair| pair[0].0 < pair[1].0)
+                    && prior.total() > 0
+            };
+            must(ascending && checked.nodes.iter().all(in_order), "priors out of order were taken")
+        }
+    }
+}

@@ -1,0 +1,41 @@
+//! Document 01 as plain Rust, written from its text alone. `Recount` keeps W and H, the list
+//! of accepted paths, and works everything out afresh at each call. `memory` carries out one
+//! call on lent bytes, whoever wrote them. Both give the same `Evidence` to the readings, so
+//! the formulas stand once. Refusals carry the numbers of 01's table.
+
+mod address;
+mod evidence;
+pub mod limits;
+pub mod memory;
+mod priors;
+mod readings;
+mod recount;
+mod refusal;
+mod stats;
+mod tables;
+mod training;
+
+pub use address::{path_bytes, Address};
+pub use evidence::{Evidence, NodeEvidence};
+pub use memory::{add_path, open, Memory};
+pub use priors::{check_priors, LentPriors, Prior, Priors};
+pub use readings::{
+    all_node_kl, evidence_prob_vector, kl_div_stats, posterior_kl_divergence, prob_vector, KLDivergenceStats,
+    NodeKlList, Output, ProbVector, Tracker,
+};
+pub use recount::Recount;
+pub use refusal::{refuse, Refusal};
+pub use stats::{stats, KLDivergenceBaselineStats, MeanVariance};
+pub use tables::{check_tables, LentTables};
+pub use training::{train, Baseline, Sequences};
+
+/// The state beside book and queue.
+#[derive(Debug, Clone, Copy, PartialEq, Eq, Default)]
+pub struct State {
+    /// The window, 0 for unlimited.
+    pub window: u32,
+    /// Entries used in the book.
+    pub used: u32,
+    /// Paths accepted.
+    pub accepted: u32,
+}

@@ -1,0 +1,3 @@
+//! Stands for `serde`: the two derive macros that goko's records name.
+
+pub use serde_derive::{Deserialize, Serialize};
