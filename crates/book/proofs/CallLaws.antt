@@ -1,0 +1,258 @@
+-- The answers of an opening and of an add by their number: what a refused call leaves and what one that is taken does; and what the form hands to an add.
+-- Assumes nothing.
+use mathlib.Core.Path.{_≡_, refl, sym, ap, ap₂, _∙_}
+use mathlib.Core.Logic.{_⊎_, inl, inr}
+use Prim.Native.Nat.{ℕ, suc, _+_, _*_, _/_, _%_, _≤_, _<_}
+use native.Mathlib.Nat.{mod-lt}
+use native.Mathlib.Omega.{arith}
+use mathlib.Core.List.{List, _++_}
+use mathlib.Core.Option.{none, some}
+use mathlib.Core.Bool.{Bool, true, false, cond, _&&_}
+use lib.Dec.{leb, eqb}
+use lib.ListN.{length, take, drop, length-take, length-drop}
+use borrow.Author.Tests.{leb-true, leb-false, le-leb, lt-leb, lt-ltb, le-ltb}
+use Rattle.priors.specs.Word.{word, store}
+use Rattle.priors.specs.Rows.{Row, keys, Ascends}
+use Rattle.priors.proofs.Ranks.{Bytes}
+use Rattle.book.specs.declared.trackers.Tracker.{Tracker}
+use Rattle.book.specs.Limits.{maxWindow, maxAccepted}
+use Rattle.book.specs.Entries.{rows, bytesOf, Rewritten}
+use Rattle.book.specs.Path.{listedKeys, countedKeys, pathOf, wholePath}
+use Rattle.book.specs.Form.{capacity, bookFits, queueFits, stateFits, formed, lengthsFit, filled, inForm}
+use Rattle.book.specs.Changes.{changeAll, touchAll, bumpAll, fadeAll, leftKeys, addRows}
+use Rattle.book.specs.Calls.{zeros, fresh, openNumber, openState, openBook, openQueue, addNumber, addState, addBook, addQueue, stateAfter, bookAfter, queueWith, listedRows, leaving, nextPlace, stepsAt, placeBytes, rowsAfter, Leaves, Ready}
+use Rattle.book.proofs.EntryLaws.{length-rows, length-bytesOf, rows-forth}
+use Rattle.book.proofs.ManyRows.{ascends-all}
+use Rattle.book.proofs.Lengths.{length-half}
+use Rattle.book.proofs.FormLaws.{and-left, and-right, formed-ascends, formed-counts, lengths-at}
+use Rattle.book.proofs.StepLaws.{part-steps, path-even, path-high}
+
+-- ---- an opening
+
+module _ (window : ℕ) (book queue : List ℕ) where
+  pub open-refused : (n : ℕ) → openNumber window book queue ≡ suc n
+      → (suc n ≡ openNumber window book queue) × ((none ≡ openState window book queue) × ((book ≡ openBook window book queue) × (queue ≡ openQueue window book queue)))
+  unfolding openState openBook openQueue
+  open-refused n e = (sym e, (rw e, (rw e, rw e)))
+
+  pub open-taken : openNumber window book queue ≡ 0
+      → (0 ≡ openNumber window book queue)
+      × ((some (fresh window) ≡ openState window book queue) × ((zeros (length book) ≡ openBook window book queue) × (zeros (length queue) ≡ openQueue window book queue)))
+  unfolding openState openBook openQueue
+  open-taken e = (sym e, (rw e, (rw e, rw e)))
+
+  pub window-over : 1024 < window → openNumber window book queue ≡ 8
+  unfolding openNumber
+  window-over h = rw (lt-ltb 1024 window h)
+
+  module _ (h : window ≤ 1024) where
+    pub lent-wrong : bookFits book && queueFits window queue ≡ false → openNumber window book queue ≡ 9
+    unfolding openNumber
+    lent-wrong e = rw (le-ltb 1024 window h, e)
+
+    pub lent-right : bookFits book && queueFits window queue ≡ true → openNumber window book queue ≡ 0
+    unfolding openNumber
+    lent-right e = rw (le-ltb 1024 window h, e)
+
+-- ---- an add
+
+module _ (t : Tracker) (book queue path : List ℕ) where
+  pub add-refused : (n : ℕ) → addNumber t book queue path ≡ suc n
+      → (suc n ≡ addNumber t book queue path) × ((t ≡ addState t book queue path) × ((book ≡ addBook t book queue path) × (queue ≡ addQueue t book queue path)))
+  unfolding addState addBook addQueue
+  add-refused n e = (sym e, (rw e, (rw e, rw e)))
+
+  pub add-taken : addNumber t book queue path ≡ 0
+      → (0 ≡ addNumber t book queue path)
+      × ((stateAfter t book queue path ≡ addState t book queue path) × ((bookAfter t book queue path ≡ addBook t book queue path) × (queueWith t queue path ≡ addQueue t book queue path)))
+  unfolding addState addBook addQueue
+  add-taken e = (sym e, (rw e, (rw e, rw e)))
+
+  pub out-of-form : inForm t book queue ≡ false → addNumber t book queue path ≡ 9
+  unfolding addNumber
+  out-of-form e = rw e
+
+  module _ (formed : inForm t book queue ≡ true) where
+    pub path-wrong : wholePath path ≡ false → addNumber t book queue path ≡ 10
+    unfolding addNumber
+    path-wrong e = rw (formed, e)
+
+    module _ (whole : wholePath path ≡ true) where
+      pub paths-full : maxAccepted ≤ t .accepted → addNumber t book queue path ≡ 11
+      unfolding addNumber
+      paths-full h = rw (formed, whole, le-leb maxAccepted (t .accepted) h)
+
+      module _ (more : t .accepted < maxAccepted) where
+        pub book-full : leb (length (listedRows t book path)) (capacity book) ≡ false → addNumber t book queue path ≡ 12
+        unfolding addNumber
+        book-full e = rw (formed, whole, lt-leb maxAccepted (t .accepted) more, lt-ltb (capacity book) (length (listedRows t book path)) (leb-false (length (listedRows t book path)) (capacity book) e))
+
+        pub nothing-refused : leb (length (listedRows t book path)) (capacity book) ≡ true → addNumber t book queue path ≡ 0
+        unfolding addNumber
+        nothing-refused e = rw (formed, whole, lt-leb maxAccepted (t .accepted) more, le-ltb (capacity book) (length (listedRows t book path)) (leb-true (length (listedRows t book path)) (capacity book) e))
+
+-- ---- what the form tells
+
+module _ (t : Tracker) (book : List ℕ) (fits : stateFits t book ≡ true) where
+  later : Bool
+  later = leb (t .used) (capacity book) && leb (t .accepted) maxAccepted
+
+  pub used-fits : 24 * t .used ≤ length book
+  unfolding stateFits later
+  used-fits =
+      let l : t .used ≤ length book / 24 = leb-true (t .used) (capacity book) (and-left (leb (t .used) (capacity book)) (leb (t .accepted) maxAccepted) (and-right (leb (t .window) maxWindow) later fits)) in
+      omega arith
+
+pub places-fit : (window : ℕ) (queue : List ℕ) → queueFits window queue ≡ true → 516 * window ≤ length queue
+unfolding queueFits
+places-fit window queue h = leb-true (516 * window) (length queue) h
+
+module _ (t : Tracker) (book queue : List ℕ) (form : inForm t book queue ≡ true) where
+  rest-state : Bool
+  rest-state = stateFits t book && (queueFits (t .window) queue && (formed (rows book (t .used)) && lengthsFit queue (filled t)))
+
+  rest-queue : Bool
+  rest-queue = queueFits (t .window) queue && (formed (rows book (t .used)) && lengthsFit queue (filled t))
+
+  rest-formed : Bool
+  rest-formed = formed (rows book (t .used)) && lengthsFit queue (filled t)
+
+  pub form-book : bookFits book ≡ true
+  unfolding inForm rest-state
+  form-book = and-left (bookFits book) rest-state form
+
+  after-book : rest-state ≡ true
+  unfolding inForm rest-state
+  after-book = and-right (bookFits book) rest-state form
+
+  after-state : rest-queue ≡ true
+  unfolding rest-state rest-queue
+  after-state = and-right (stateFits t book) rest-queue after-book
+
+  after-queue : rest-formed ≡ true
+  unfolding rest-queue rest-formed
+  after-queue = and-right (queueFits (t .window) queue) rest-formed after-state
+
+  pub form-used : 24 * t .used ≤ length book
+  unfolding rest-state rest-queue
+  form-used = used-fits t book (and-left (stateFits t book) rest-queue after-book)
+
+  pub form-formed : formed (rows book (t .used)) ≡ true
+  unfolding rest-formed
+  form-formed = and-left (formed (rows book (t .used))) (lengthsFit queue (filled t)) after-queue
+
+  form-leaves : Leaves t queue
+  unfolding rest-queue rest-formed
+  form-leaves = record {
+    places-fit = places-fit (t .window) queue (and-left (queueFits (t .window) queue) rest-formed after-state);
+    lengths-fit = and-right (formed (rows book (t .used))) (lengthsFit queue (filled t)) after-queue;
+  }
+
+  pub form-ascends : Ascends 0 (keys (rows book (t .used)))
+  form-ascends = formed-ascends (rows book (t .used)) form-formed
+
+  -- no test turns the path back
+  pub ready : (path : List ℕ) → wholePath path ≡ true → t .accepted < maxAccepted → leb (length (listedRows t book path)) (capacity book) ≡ true → Ready t book queue path
+  ready path whole more room = record {
+    book-fits = form-book;
+    used-fit = form-used;
+    ascends = form-ascends;
+    counts-fit = formed-counts (rows book (t .used)) form-formed;
+    queue-fits = form-leaves;
+    path-whole = whole;
+    not-last = more;
+    room = leb-true (length (listedRows t book path)) (capacity book) room;
+  }
+
+-- ---- the path that leaves
+
+module _ (t : Tracker) (queue : List ℕ) where
+  pub none-leaves : (t .window ≡ 0) ⊎ (t .accepted < t .window) → leaving t queue ≡ none
+  unfolding leaving
+  none-leaves (inl e) = rw (lt-leb 1 (t .window) (omega arith))
+  none-leaves (inr l) = ap (λ (b : Bool). cond b (some (stepsAt queue (nextPlace t))) none) (and-false (leb 1 (t .window)) (lt-leb (t .window) (t .accepted) l))
+    where
+      and-false : (a : Bool) {b : Bool} → b ≡ false → a && b ≡ false
+      and-false true e = e
+      and-false false e = refl
+
+  module _ (some-window : t .window ≡ 0 → ⊥) where
+    place-lt : t .accepted % t .window < t .window
+    place-lt = mod-lt (t .accepted) (omega arith)
+
+    pub place-in : 516 * t .window ≤ length queue → nextPlace t + 516 ≤ length queue
+    place-in fits = omega (arith, place-lt)
+
+    module _ (leaves : Leaves t queue) (full : t .window ≤ t .accepted) where
+      pub leaves-is : leaving t queue ≡ some (stepsAt queue (nextPlace t))
+      unfolding leaving
+      leaves-is = rw (le-leb 1 (t .window) (omega arith), le-leb (t .window) (t .accepted) full)
+
+      pub leaves-steps : (1 ≤ word queue (nextPlace t)) × (word queue (nextPlace t) ≤ 64)
+      leaves-steps = lengths-at queue (filled t) (t .accepted % t .window) (leaves .lengths-fit) (omega (arith, place-lt))
+
+      pub leaves-length : 8 ≤ length (take (8 * word queue (nextPlace t)) (drop (nextPlace t + 4) queue))
+      leaves-length = simp (length-take, length-drop) (omega (arith, place-in (leaves .places-fit), leaves-steps))
+
+      pub leaves-part : pathOf (take (8 * word queue (nextPlace t)) (drop (nextPlace t + 4) queue)) ≡ stepsAt queue (nextPlace t)
+      leaves-part = part-steps queue (nextPlace t) (omega (arith, place-in (leaves .places-fit), leaves-steps))
+
+-- where none leaves nothing is taken away
+pub nothing-left : (t : Tracker) (queue s : List ℕ) (n : ℕ) → leaving t queue ≡ none → Rewritten s s n (fadeAll (leftKeys (leaving t queue)) (rows s n))
+unfolding changeAll
+nothing-left t queue s n e = rw e (record { number-is = sym (length-rows s n); rows-are = refl; rest-is = refl })
+
+-- ---- the path that is kept
+
+module _ (t : Tracker) (queue path : List ℕ) where
+  pub none-kept : t .window ≡ 0 → queue ≡ queueWith t queue path
+  unfolding queueWith
+  none-kept e = rw (lt-leb 1 (t .window) (omega arith))
+
+  pub kept : (t .window ≡ 0 → ⊥) → store queue (nextPlace t) (placeBytes path) ≡ queueWith t queue path
+  unfolding queueWith
+  kept n = rw (le-leb 1 (t .window) (omega arith))
+
+-- ---- what an add leaves
+
+module _ (t : Tracker) (book queue path : List ℕ) (r : Ready t book queue path) where
+  pub listed-fit : 24 * length (touchAll (listedKeys (pathOf path)) (rows book (t .used))) ≤ length book
+  listed-fit = omega (arith, r .room)
+
+  pub path-short : length path ≤ 512
+  path-short = omega (arith, path-even path (r .path-whole), path-high path (r .path-whole))
+
+  module _ (s₁ : List ℕ) (n : ℕ) (len₁ : length s₁ ≡ length book)
+      (first : Rewritten book s₁ n (bumpAll (countedKeys (pathOf path)) (touchAll (listedKeys (pathOf path)) (rows book (t .used))))) where
+    pub number-is : n ≡ length (listedRows t book path)
+    number-is = first .number-is ∙ length-half (pathOf path) (rows book (t .used))
+
+    pub number-small : n ≤ 16384
+    unfolding bookFits
+    number-small =
+        let most : capacity book ≤ 16384 = leb-true (capacity book) 16384 (and-right (leb 1 (capacity book)) (leb (capacity book) 16384) (and-right (eqb (length book % 24) 0) (leb 1 (capacity book) && leb (capacity book) 16384) (r .book-fits))) in
+        omega (arith, number-is, r .room)
+
+    pub half-fits : 24 * n ≤ length s₁
+    half-fits = omega (arith, number-is, r .room)
+
+    pub half-ascends : Ascends 0 (keys (rows s₁ n))
+    half-ascends = rw (first .rows-are) (ascends-all (some 1) (λ c. c + 1) (countedKeys (pathOf path)) _ (ascends-all (some 0) (λ c. c) (listedKeys (pathOf path)) (rows book (t .used)) (r .ascends)))
+
+    module _ (s₂ : List ℕ) (second : Rewritten s₁ s₂ n (fadeAll (leftKeys (leaving t queue)) (rows s₁ n))) where
+      whole : fadeAll (leftKeys (leaving t queue)) (rows s₁ n) ≡ rowsAfter t book queue path
+      unfolding rowsAfter addRows
+      whole = ap (fadeAll (leftKeys (leaving t queue))) (first .rows-are)
+
+      pub used-is : n ≡ length (rowsAfter t book queue path)
+      used-is = second .number-is ∙ ap length whole
+
+      pub book-is : Bytes s₂ → length s₂ ≡ length s₁ → s₂ ≡ bookAfter t book queue path
+      unfolding bookAfter
+      book-is bytes len₂ =
+          let after : List Row = rowsAfter t book queue path in
+          let size : length (bytesOf after) ≡ 24 * n = length-bytesOf after ∙ ap (λ (k : ℕ). 24 * k) (sym used-is) in
+          let fits : 24 * n ≤ length s₂ = omega (arith, half-fits) in
+          sym (rows-forth s₂ bytes n fits)
+          ∙ ap₂ (λ (x : List Row) (y : List ℕ). bytesOf x ++ y) (second .rows-are ∙ whole) (second .rest-is ∙ first .rest-is)
+          ∙ ap (λ (k : ℕ). bytesOf after ++ drop k book) (sym size)

@@ -1,0 +1,155 @@
+-- The claim over lists of openings and adds, proved: one call takes the image of a recount to the image of the next with the recount's own answer, since the image has
+-- the form, its rows are the recount's, and the path about to leave is the oldest of the window part; an accepted opening leaves an image whatever was there.
+-- Assumes nothing.
+use mathlib.Core.Path.{_≡_, refl, sym, ap, ap₂, _∙_}
+use Prim.Native.Nat.{ℕ, zero, suc, _+_, _-_, _*_, _≤_, _<_}
+use native.Mathlib.Omega.{arith}
+use mathlib.Core.List.{List, [], _∷_, _++_, flatMap}
+use mathlib.Core.Option.{Option, none, some}
+use lib.ListN.{length, drop, length-append, replicate-append-replicate}
+use Rattle.priors.specs.Rows.{Row}
+use Rattle.book.specs.declared.trackers.Tracker.{Tracker}
+use Rattle.book.specs.Entries.{bytesOf}
+use Rattle.book.specs.Path.{Steps, pathOf}
+use Rattle.book.specs.Changes.{addRows}
+use Rattle.book.specs.Calls.{stateAfter, bookAfter, zeros, unlessRefused, fresh, openNumber, openState, openBook, openQueue, rowsAfter, addState, addBook, addQueue}
+use Rattle.book.specs.Recount.{enterAll, listing, rowsOf, held, bookImage, placesImage, queueImage}
+use Rattle.book.specs.Figures.{All}
+use Rattle.book.specs.Claims.{BookCall, opening, add, Machine, reopened, bookStep, Recount, openRefusal, addRefusal, restarted, joined, stateImage, recountStep, image, InBytes, Claim}
+use Rattle.book.proofs.Step.{rows-step}
+use Rattle.book.proofs.PathLaws.{all-bytes}
+use Rattle.book.proofs.QueueImage.{leaving-image, queue-step}
+use Rattle.book.proofs.BookImage.{length-image, book-step}
+use Rattle.book.proofs.Kept.{Kept, open-sizes, add-taken, path-whole, kept-restarted, kept-step}
+use Rattle.book.proofs.Simulation.{Alike, AllAlike, runs-after, runs-image}
+use Rattle.book.proofs.RefusalLaws.{open-number}
+use Rattle.book.proofs.FormImage.{rows-are, add-number}
+
+-- ---- an opening
+
+places-empty : (W n : ℕ) → placesImage W [] n ≡ zeros (516 * n)
+unfolding placesImage held
+places-empty W zero = refl
+places-empty W (suc n) =
+    let e : 516 * n + 516 ≡ 516 * suc n = omega arith in
+    ap (λ (l : List ℕ). l ++ zeros 516) (places-empty W n) ∙ replicate-append-replicate {A = ℕ} (516 * n) 516 0 ∙ ap zeros e
+
+-- zeros stand for no paths
+pub image-restarted : (w b q : ℕ) → 516 * w ≤ q → image (restarted w b q) ≡ record { state = fresh w; book = zeros b; queue = zeros q }
+unfolding image bookImage queueImage rowsOf listing enterAll flatMap bytesOf
+image-restarted w b q h =
+    let book : b - 24 * 0 ≡ b = omega arith in
+    let queue : 516 * w + (q - 516 * w) ≡ q = omega arith in
+    let places : placesImage w [] w ++ zeros (q - 516 * w) ≡ zeros q =
+    ap (λ (l : List ℕ). l ++ zeros (q - 516 * w)) (places-empty w w) ∙ replicate-append-replicate {A = ℕ} (516 * w) (q - 516 * w) 0 ∙ ap zeros queue in
+    λ i. record { state = fresh w; book = zeros (book i); queue = places i }
+
+-- what is left is the image of what the recount keeps, taken or refused
+unless-image : {X Y : Type 0} (f : Y → X) (m n : ℕ) (x y : X) (a b : Y) → m ≡ n → (n ≡ 0 → x ≡ f a) → y ≡ f b → unlessRefused m x y ≡ f (unlessRefused n a b)
+unless-image f m n x y a b e h i = ap (λ (k : ℕ). unlessRefused k x y) e ∙ go n h
+  where
+    go : (n : ℕ) → (n ≡ 0 → x ≡ f a) → unlessRefused n x y ≡ f (unlessRefused n a b)
+    go zero h = h refl
+    go (suc n) h = i
+
+module _ (m : Machine) (r : Recount) (w : ℕ) (book queue : List ℕ) where
+  pub opened : bookStep m (opening w book queue) .1 ≡ unlessRefused (openNumber w book queue) (record { state = fresh w; book = zeros (length book); queue = zeros (length queue) }) m
+  unfolding bookStep openState openBook openQueue
+  opened = go (openNumber w book queue)
+    where
+      go : (n : ℕ) → reopened (unlessRefused n (some (fresh w)) none) (unlessRefused n (zeros (length book)) book) (unlessRefused n (zeros (length queue)) queue) m
+          ≡ unlessRefused n (record { state = fresh w; book = zeros (length book); queue = zeros (length queue) }) m
+      go zero = refl
+      go (suc n) = refl
+
+  pub open-answer : bookStep m (opening w book queue) .0 ≡ recountStep r (opening w book queue) .0
+  unfolding bookStep openState recountStep listing enterAll flatMap
+  open-answer = rw (open-number w book queue)
+
+  zeroed : openRefusal w (length book) (length queue) ≡ 0
+      → _≡_ {A = Machine} (record { state = fresh w; book = zeros (length book); queue = zeros (length queue) }) (image (restarted w (length book) (length queue)))
+  zeroed e = sym (image-restarted w (length book) (length queue) (open-sizes w (length book) (length queue) e .queue-fits))
+
+  open-leaves : m ≡ image r → bookStep m (opening w book queue) .1 ≡ image (recountStep r (opening w book queue) .1)
+  unfolding recountStep
+  open-leaves is =
+      opened
+      ∙ unless-image image (openNumber w book queue) (openRefusal w (length book) (length queue)) _ m (restarted w (length book) (length queue)) r (open-number w book queue) zeroed is
+
+  -- an opening that is accepted, whatever there was
+  open-fresh : openRefusal w (length book) (length queue) ≡ 0 → bookStep m (opening w book queue) .1 ≡ image (recountStep r (opening w book queue) .1)
+  unfolding recountStep
+  open-fresh e =
+      opened
+      ∙ ap (λ (n : ℕ). unlessRefused n (record { state = fresh w; book = zeros (length book); queue = zeros (length queue) }) m) (open-number w book queue ∙ e)
+      ∙ zeroed e
+      ∙ ap (λ (n : ℕ). image (unlessRefused n (restarted w (length book) (length queue)) r)) (sym e)
+
+-- ---- an add
+
+module _ (r : Recount) (k : Kept r) (path : List ℕ) (bytes : All (λ b. b < 256) path) where
+  abbrev p : Steps
+  p = pathOf path
+
+  rows-after : rowsAfter (image r .state) (image r .book) (image r .queue) path ≡ rowsOf (r .window) (r .paths ++ p ∷ [])
+  unfolding rowsAfter image
+  rows-after =
+      ap₂ (λ (l : Option Steps) (rs : List Row). addRows p l rs) (leaving-image (r .window) (length (listing (r .paths))) (r .paths) (r .queueSize) (k .whole) (k .ranks)) (rows-are r k)
+      ∙ sym (rows-step (r .window) (r .paths) p)
+
+  add-state : addState (image r .state) (image r .book) (image r .queue) path ≡ stateImage (recountStep r (add path) .1)
+  unfolding addState stateAfter recountStep image
+  add-state = unless-image stateImage _ (addRefusal r path) _ (stateImage r) (joined r p) r (add-number r k path) (λ e. taken) refl
+    where
+      used : length (rowsAfter (image r .state) (image r .book) (image r .queue) path) ≡ length (listing (r .paths ++ p ∷ []))
+      used = ap length rows-after ∙ length-image (r .window) (r .paths ++ p ∷ [])
+
+      accepted : length (r .paths) + 1 ≡ length (r .paths ++ p ∷ [])
+      accepted = omega (arith, length-append (r .paths) (p ∷ []))
+
+      taken : _≡_ {A = Tracker} (record { window = r .window; used = length (rowsAfter (image r .state) (image r .book) (image r .queue) path); accepted = length (r .paths) + 1 }) (stateImage (joined r p))
+      taken = λ i. record { window = r .window; used = used i; accepted = accepted i }
+
+  add-book : addBook (image r .state) (image r .book) (image r .queue) path ≡ image (recountStep r (add path) .1) .book
+  unfolding addBook bookAfter recountStep image
+  add-book =
+      unless-image (λ (s : Recount). bookImage (s .window) (s .paths) (s .bookSize)) _ (addRefusal r path) _ _ (joined r p) r (add-number r k path)
+      (λ e. ap (λ (rs : List Row). bytesOf rs ++ drop (length (bytesOf rs)) (bookImage (r .window) (r .paths) (r .bookSize))) rows-after ∙ book-step (r .window) (r .paths) (r .bookSize) p)
+      refl
+
+  add-queue : addQueue (image r .state) (image r .book) (image r .queue) path ≡ image (recountStep r (add path) .1) .queue
+  unfolding addQueue recountStep image
+  add-queue =
+      unless-image (λ (s : Recount). queueImage (s .window) (s .paths) (s .queueSize)) _ (addRefusal r path) _ _ (joined r p) r (add-number r k path)
+      (λ e. let t = add-taken r path e in
+      queue-step (r .window) (length (listing (r .paths))) (r .paths) (r .queueSize) path (k .whole) (all-bytes path bytes) (t .steps-whole) (path-whole path (t .steps-some) (t .steps-le)))
+      refl
+
+  add-answer : bookStep (image r) (add path) .0 ≡ recountStep r (add path) .0
+  unfolding bookStep recountStep
+  add-answer = λ i. record { number = add-number r k path i; state = some (add-state i) }
+
+  add-leaves : bookStep (image r) (add path) .1 ≡ image (recountStep r (add path) .1)
+  unfolding bookStep image
+  add-leaves = λ i. record { state = add-state i; book = add-book i; queue = add-queue i }
+
+-- ---- one call, and any calls
+
+pub step-image : (r : Recount) (c : BookCall) → Kept r → InBytes c → Alike bookStep recountStep image Kept InBytes (image r) r c
+step-image r (opening w book queue) k b = (open-answer (image r) r w book queue, open-leaves (image r) r w book queue refl, kept-step r (opening w book queue) k b)
+step-image r (add path) k b = (add-answer r k path b, add-leaves r k path b, kept-step r (add path) k b)
+
+pub kept-first : (r : Recount) (w : ℕ) (book queue : List ℕ) → openRefusal w (length book) (length queue) ≡ 0 → Kept (recountStep r (opening w book queue) .1)
+unfolding recountStep
+kept-first r w book queue e = rw e (kept-restarted w (length book) (length queue) (open-sizes w (length book) (length queue) e))
+
+-- the claim, and that what is left is within the limits
+pub claim-kept : (m : Machine) (r : Recount) (w : ℕ) (book queue : List ℕ) → openRefusal w (length book) (length queue) ≡ 0 → (cs : List BookCall) → All InBytes cs
+    → AllAlike bookStep recountStep image Kept InBytes m r (opening w book queue ∷ cs)
+claim-kept m r w book queue e cs bytes =
+    let first : Alike bookStep recountStep image Kept InBytes m r (opening w book queue) = (open-answer m r w book queue, open-fresh m r w book queue e, kept-first r w book queue e) in
+    runs-after bookStep recountStep image Kept InBytes step-image m r (opening w book queue) first cs
+    (runs-image bookStep recountStep image Kept InBytes step-image (recountStep r (opening w book queue) .1) cs (first .2) bytes)
+
+pub claim : Claim
+claim m r w book queue e cs bytes = let all = claim-kept m r w book queue e cs bytes in (all .0, all .1)

@@ -1,0 +1,56 @@
+-- The definitions at work on the kit's rows, by computation: the nodes are (1,7) and (0,9), the window is 1. Assumes nothing.
+use mathlib.Core.Path.{_≡_, refl}
+use Prim.Native.Nat.{ℕ}
+use mathlib.Core.List.{List, [], _∷_, _++_, map, flatMap}
+use lib.ListN.{replicate}
+use Rattle.priors.specs.Word.{word, store}
+use Rattle.priors.specs.Address.{lift, rank}
+use Rattle.priors.specs.Rows.{row, change}
+use Rattle.book.specs.Keys.{keyOf, endKey, childKey, nodeOf, kindOf, childOf}
+use Rattle.book.specs.Entries.{keyAt, rowAt, rows, rowBytes, bytesOf}
+use Rattle.book.specs.Path.{stepsOf, wholePath, listedKeys, countedKeys}
+use Rattle.book.specs.Form.{bookFits, queueFits, plain, follows, formedAfter, formed, lengthsFit, stateFits, inForm}
+use Rattle.book.specs.Changes.{changeAll, addRows}
+use Rattle.book.specs.Calls.{fresh, openNumber, openState, openBook, openQueue, leaving, addNumber, rowsAfter, addState, stateAfter, addBook, bookAfter, placeBytes, queueWith, addQueue}
+use Rattle.book.specs.Recount.{enter, enterAll, listing}
+use Rattle.book.specs.Claims.{BookCall, opening, add, BookAnswer, runs, Machine, bookStep, recountStep, openRefusal, addRefusal, restarted}
+use Rattle.book.specs.Corollaries.{entriesOf}
+
+abbrev high : List ℕ
+high = 1 ∷ 0 ∷ 0 ∷ 0 ∷ 7 ∷ 0 ∷ 0 ∷ 0 ∷ []
+
+abbrev low : List ℕ
+low = 0 ∷ 0 ∷ 0 ∷ 0 ∷ 9 ∷ 0 ∷ 0 ∷ 0 ∷ []
+
+-- a book of two entries is too small for the path (1,7), (0,9), one of three is not; a path of no steps, a window over 1,024 and a short queue are refused
+abbrev calls : List BookCall
+calls =
+    opening 1 (replicate 48 5) (replicate 516 5)
+    ∷ add (high ++ low)
+    ∷ opening 1 (replicate 72 5) (replicate 516 5)
+    ∷ add (high ++ low)
+    ∷ add high
+    ∷ add []
+    ∷ opening 1025 [] []
+    ∷ opening 1 (replicate 72 5) (replicate 515 5)
+    ∷ []
+
+abbrev numbers : List BookAnswer → List ℕ
+numbers = map (λ (a : BookAnswer). a .number)
+
+recount-numbers : numbers (runs recountStep (restarted 0 0 0) calls .0) ≡ 0 ∷ 12 ∷ 0 ∷ 0 ∷ 0 ∷ 10 ∷ 8 ∷ 9 ∷ []
+unfolding runs recountStep openRefusal addRefusal listing enterAll enter flatMap listedKeys stepsOf word rank lift endKey childKey keyOf
+recount-numbers = refl
+
+-- the functions' own definitions answer so too, whatever there was
+before : Machine
+before = record { state = fresh 3; book = []; queue = [] }
+
+book-numbers : numbers (runs bookStep before calls .0) ≡ 0 ∷ 12 ∷ 0 ∷ 0 ∷ 0 ∷ 10 ∷ 8 ∷ 9 ∷ []
+unfolding before runs bookStep openNumber openState openBook openQueue addNumber addState stateAfter addBook bookAfter addQueue rowsAfter leaving queueWith placeBytes inForm stateFits queueFits bookFits formed formedAfter follows plain lengthsFit rows rowAt keyAt bytesOf rowBytes nodeOf kindOf childOf store wholePath changeAll change addRows listedKeys countedKeys stepsOf word rank lift endKey childKey keyOf
+book-numbers = refl
+
+-- then the ending of (1,7) counts 1, and what only the path that left had counted stays with 0
+entries-left : entriesOf (runs bookStep before calls .1) ≡ row (endKey (rank 0 9)) 0 ∷ row (endKey (rank 1 7)) 1 ∷ row (childKey (rank 1 7) (rank 0 9)) 0 ∷ []
+unfolding before runs bookStep openNumber openState openBook openQueue addNumber addState stateAfter addBook bookAfter addQueue rowsAfter leaving queueWith placeBytes inForm stateFits queueFits bookFits formed formedAfter follows plain lengthsFit rows rowAt keyAt bytesOf rowBytes nodeOf kindOf childOf store wholePath changeAll change addRows listedKeys countedKeys stepsOf word rank lift endKey childKey keyOf
+entries-left = refl

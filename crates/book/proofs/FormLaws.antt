@@ -1,0 +1,213 @@
+-- The form by its tests: of an entry from its fields, of entries one after the other, of the queue's lengths; and what the form tells an add. Assumes nothing.
+use mathlib.Core.Path.{_≡_, refl, sym, ap, _∙_}
+use mathlib.Core.Bool.{Bool, true, false, _&&_, _||_}
+use Prim.Native.Nat.{ℕ, zero, suc, _+_, _-_, _*_, _≤_, _<_, zero-le}
+use mathlib.Core.Logic.{⊎-elim}
+use native.Mathlib.Nat.{not-suc-le-zero, le-of-suc-le-suc, eq-or-lt-of-le}
+use native.Mathlib.Numerals.{add-one}
+use native.Mathlib.Omega.{arith}
+use mathlib.Core.List.{List, [], _∷_}
+use lib.Dec.{ltb, leb, eqb}
+use lib.ListN.{length, getD, take, drop, drop-of-length-le}
+use lib.Seq.{drop-cons, ext-getD}
+use borrow.Author.Tests.{le-leb, lt-leb, eq-eqb, ne-eqb, leb-true, ltb-true}
+use Rattle.priors.specs.Word.{word}
+use Rattle.priors.specs.Address.{rankAt}
+use Rattle.priors.specs.Rows.{Row, keys, Ascends}
+use Rattle.priors.specs.Search.{blank}
+use Rattle.priors.proofs.Ranks.{Bytes}
+use Rattle.book.specs.Limits.{maxCount, maxSteps, placeSize}
+use Rattle.book.specs.Keys.{nodeOf, kindOf, childOf, noChild}
+use Rattle.book.specs.Entries.{keyAt, rowAt, rows}
+use Rattle.book.specs.declared.trackers.Tracker.{Tracker}
+use Rattle.book.specs.Form.{bookFits, queueFits, stateFits, plain, follows, formedAfter, formed, lengthsFit, filled, inForm}
+use Rattle.book.specs.Changes.{CountsUpTo}
+use Rattle.book.proofs.EntryLaws.{length-rows, getD-rows, row-take, node-at, kind-at, child-at}
+
+pub and-left : (a b : Bool) → a && b ≡ true → a ≡ true
+and-left true b h = refl
+and-left false b h = h
+
+pub and-right : (a b : Bool) → a && b ≡ true → b ≡ true
+and-right true b h = h
+and-right false b h = cc
+
+and-true : (b : Bool) → b && true ≡ b
+and-true true = refl
+and-true false = refl
+
+and-false : (b : Bool) → b && false ≡ false
+and-false true = refl
+and-false false = refl
+
+-- ---- an entry, from its fields
+
+module _ (s : List ℕ) (bytes : Bytes s) (a : ℕ) where
+  pub plain-is : plain (rowAt s a) ≡ leb (word s (a + 8)) 1 && (leb (word s (a + 20)) maxCount && (eqb (word s (a + 8)) 1 || eqb (rankAt s (a + 12)) noChild))
+  unfolding plain rowAt
+  plain-is = rw (kind-at s bytes a, child-at s bytes a)
+
+  pub follows-is : (b : ℕ) → follows (keyAt s b) (rowAt s a) ≡ ltb (keyAt s b) (keyAt s a) && (eqb (rankAt s b) (rankAt s a) || eqb (word s (a + 8)) 0)
+  unfolding follows rowAt
+  follows-is b = rw (node-at s bytes b, node-at s bytes a, kind-at s bytes a)
+
+-- ---- entries one after the other
+
+formed-turn : (s : List ℕ) (n k i : ℕ) → i < n
+    → formedAfter k (drop i (rows s n)) ≡ plain (rowAt s (24 * i)) && (follows k (rowAt s (24 * i)) && formedAfter (keyAt s (24 * i)) (drop (i + 1) (rows s n)))
+unfolding formedAfter rowAt
+formed-turn s n k i h =
+    let len : length (rows s n) ≡ n = length-rows s n in
+    ap (formedAfter k) (drop-cons (rows s n) i blank (omega arith)) ∙ rw (getD-rows s n i blank h, add-one i)
+
+module _ (s : List ℕ) (bytes : Bytes s) (n : ℕ) where
+  formed-first : 0 < n → formed (rows s n) ≡ plain (rowAt s 0) && (eqb (word s 8) 0 && formedAfter (keyAt s 0) (drop 1 (rows s n)))
+  unfolding formed rows rowAt
+  formed-first = go n
+    where
+      go : (m : ℕ) → 0 < m → formed (rows s m) ≡ plain (rowAt s 0) && (eqb (word s 8) 0 && formedAfter (keyAt s 0) (drop 1 (rows s m)))
+      go zero h = absurd (not-suc-le-zero h)
+      go (suc m) h = rw (kind-at s bytes 0)
+
+  pub none : n ≡ 0 → true ≡ formed (rows s n)
+  unfolding formed rows
+  none e = rw e
+
+  -- before the loop
+  module _ (pos : 0 < n) where
+    pub start-plain : plain (rowAt s 0) ≡ false → false ≡ formed (rows s n)
+    start-plain e = rw (formed-first pos, e)
+
+    module _ (p : plain (rowAt s 0) ≡ true) where
+      pub start-ending : (word s 8 ≡ 0 → ⊥) → false ≡ formed (rows s n)
+      start-ending e = rw (formed-first pos, p, ne-eqb (word s 8) 0 e)
+
+      pub start-on : word s 8 ≡ 0 → formed (rows s n) ≡ formedAfter (keyAt s 0) (drop 1 (rows s n))
+      start-on e = rw (formed-first pos, p, eq-eqb (word s 8) 0 e)
+
+  -- in the loop: what is left is as it was after k
+  module _ (k i : ℕ) (so-far : formed (rows s n) ≡ formedAfter k (drop i (rows s n))) where
+    module _ (in-book : i < n) where
+      pub turn-plain : plain (rowAt s (24 * i)) ≡ false → false ≡ formed (rows s n)
+      turn-plain e = rw (so-far, formed-turn s n k i in-book, e)
+
+      pub turn-follows : plain (rowAt s (24 * i)) ≡ true → follows k (rowAt s (24 * i)) ≡ false → false ≡ formed (rows s n)
+      turn-follows p e = rw (so-far, formed-turn s n k i in-book, p, e)
+
+      pub turn-on : plain (rowAt s (24 * i)) ≡ true → follows k (rowAt s (24 * i)) ≡ true → formed (rows s n) ≡ formedAfter (keyAt s (24 * (i + 1 - 1))) (drop (i + 1) (rows s n))
+      turn-on p f =
+          let same : i ≡ i + 1 - 1 = omega arith in
+          so-far ∙ formed-turn s n k i in-book ∙ rw (p, f) (ap (λ (j : ℕ). formedAfter (keyAt s (24 * j)) (drop (i + 1) (rows s n))) same)
+
+    pub done : n ≤ i → true ≡ formed (rows s n)
+    unfolding formedAfter
+    done h =
+        let len : length (rows s n) ≡ n = length-rows s n in
+        let past : length (rows s n) ≤ i = omega arith in
+        sym (so-far ∙ ap (formedAfter k) (drop-of-length-le (rows s n) past))
+
+-- ---- the queue's lengths
+
+fits : List ℕ → ℕ → Bool
+fits queue i = leb 1 (word queue (placeSize * i)) && leb (word queue (placeSize * i)) maxSteps
+
+module _ (queue : List ℕ) (n i : ℕ) (so-far : lengthsFit queue n ≡ lengthsFit queue i) where
+  last : 0 < i → lengthsFit queue i ≡ lengthsFit queue (i - 1) && fits queue (i - 1)
+  unfolding lengthsFit fits
+  last h =
+      let is : i ≡ suc (i - 1) = omega arith in
+      ap (lengthsFit queue) is
+
+  pub length-short : 0 < i → word queue (516 * (i - 1)) < 1 → false ≡ lengthsFit queue n
+  unfolding fits
+  length-short h l = rw (so-far, last h, lt-leb 1 (word queue (516 * (i - 1))) l) (sym (and-false (lengthsFit queue (i - 1))))
+
+  pub length-long : 0 < i → 1 ≤ word queue (516 * (i - 1)) → 64 < word queue (516 * (i - 1)) → false ≡ lengthsFit queue n
+  unfolding fits
+  length-long h k l = rw (so-far, last h, le-leb 1 (word queue (516 * (i - 1))) k, lt-leb (word queue (516 * (i - 1))) 64 l) (sym (and-false (lengthsFit queue (i - 1))))
+
+  pub length-on : 0 < i → 1 ≤ word queue (516 * (i - 1)) → word queue (516 * (i - 1)) ≤ 64 → lengthsFit queue n ≡ lengthsFit queue (i - 1)
+  unfolding fits
+  length-on h k l = rw (so-far, last h, le-leb 1 (word queue (516 * (i - 1))) k, le-leb (word queue (516 * (i - 1))) 64 l) (and-true (lengthsFit queue (i - 1)))
+
+  pub lengths-done : i ≤ 0 → true ≡ lengthsFit queue n
+  unfolding lengthsFit
+  lengths-done h =
+      let is : i ≡ 0 = omega arith in
+      sym (so-far ∙ ap (lengthsFit queue) is)
+
+-- ---- what the form tells
+
+pub lengths-at : (queue : List ℕ) (n i : ℕ) → lengthsFit queue n ≡ true → i < n → (1 ≤ word queue (516 * i)) × (word queue (516 * i) ≤ 64)
+unfolding lengthsFit
+lengths-at queue zero i h l = absurd (not-suc-le-zero l)
+lengths-at queue (suc n) i h l = ⊎-elim (λ e. rw e here) (λ q. lengths-at queue n i (and-left (lengthsFit queue n) low h) q) (eq-or-lt-of-le (le-of-suc-le-suc l))
+  where
+    low : Bool
+    low = leb 1 (word queue (placeSize * n)) && leb (word queue (placeSize * n)) maxSteps
+
+    here : (1 ≤ word queue (516 * n)) × (word queue (516 * n) ≤ 64)
+    here =
+        let t : low ≡ true = and-right (lengthsFit queue n) low h in (
+          leb-true 1 (word queue (placeSize * n)) (and-left (leb 1 (word queue (placeSize * n))) (leb (word queue (placeSize * n)) maxSteps) t),
+          leb-true (word queue (placeSize * n)) maxSteps (and-right (leb 1 (word queue (placeSize * n))) (leb (word queue (placeSize * n)) maxSteps) t),
+        )
+
+ascends-after : (k : ℕ) (rs : List Row) → formedAfter k rs ≡ true → Ascends (suc k) (keys rs)
+unfolding formedAfter follows
+ascends-after k [] h = tt
+ascends-after k (r ∷ rs) h =
+    let f : Bool = follows k r in
+    let t : f && formedAfter (r .key) rs ≡ true = and-right (plain r) (f && formedAfter (r .key) rs) h in
+    let g : Bool = eqb (nodeOf k) (nodeOf (r .key)) || eqb (kindOf (r .key)) 0 in
+    (ltb-true k (r .key) (and-left (ltb k (r .key)) g (and-left f (formedAfter (r .key) rs) t)), ascends-after (r .key) rs (and-right f (formedAfter (r .key) rs) t))
+
+pub formed-ascends : (rs : List Row) → formed rs ≡ true → Ascends 0 (keys rs)
+unfolding formed
+formed-ascends [] h = tt
+formed-ascends (r ∷ rs) h =
+    let e : Bool = eqb (kindOf (r .key)) 0 in
+    (zero-le, ascends-after (r .key) rs (and-right e (formedAfter (r .key) rs) (and-right (plain r) (e && formedAfter (r .key) rs) h)))
+
+plain-count : (r : Row) → plain r ≡ true → r .count ≤ maxCount
+unfolding plain
+plain-count r h =
+    let t : Bool = eqb (kindOf (r .key)) 1 || eqb (childOf (r .key)) noChild in
+    leb-true (r .count) maxCount (and-left (leb (r .count) maxCount) t (and-right (leb (kindOf (r .key)) 1) (leb (r .count) maxCount && t) h))
+
+counts-after : (k : ℕ) (rs : List Row) → formedAfter k rs ≡ true → CountsUpTo maxCount rs
+unfolding formedAfter
+counts-after k [] h = tt
+counts-after k (r ∷ rs) h =
+    let f : Bool = follows k r in
+    let t : f && formedAfter (r .key) rs ≡ true = and-right (plain r) (f && formedAfter (r .key) rs) h in
+    (plain-count r (and-left (plain r) (f && formedAfter (r .key) rs) h), counts-after (r .key) rs (and-right f (formedAfter (r .key) rs) t))
+
+pub formed-counts : (rs : List Row) → formed rs ≡ true → CountsUpTo maxCount rs
+unfolding formed
+formed-counts [] h = tt
+formed-counts (r ∷ rs) h =
+    let e : Bool = eqb (kindOf (r .key)) 0 in
+    (plain-count r (and-left (plain r) (e && formedAfter (r .key) rs) h), counts-after (r .key) rs (and-right e (formedAfter (r .key) rs) (and-right (plain r) (e && formedAfter (r .key) rs) h)))
+
+-- ---- what the form reads: sizes, the used entries and the lengths of filled places
+
+rows-take : (s : List ℕ) (n : ℕ) → rows (take (24 * n) s) n ≡ rows s n
+rows-take s n =
+    let len : length (rows (take (24 * n) s) n) ≡ n = length-rows (take (24 * n) s) n in
+    ext-getD blank (rows (take (24 * n) s) n) (rows s n) (len ∙ sym (length-rows s n)) (λ i l. at i (omega arith))
+  where
+    at : (i : ℕ) → i < n → getD (rows (take (24 * n) s) n) i blank ≡ getD (rows s n) i blank
+    at i l = getD-rows (take (24 * n) s) n i blank l ∙ row-take (24 * n) s (24 * i) (omega arith) ∙ sym (getD-rows s n i blank l)
+
+lengths-alike : (q q′ : List ℕ) (n : ℕ) → ((i : ℕ) → i < n → word q (516 * i) ≡ word q′ (516 * i)) → lengthsFit q n ≡ lengthsFit q′ n
+unfolding lengthsFit
+lengths-alike q q′ zero h = refl
+lengths-alike q q′ (suc n) h = rw (h n (omega arith), lengths-alike q q′ n (λ i l. h i (omega arith)))
+
+pub form-reads : (t : Tracker) (book book′ queue queue′ : List ℕ) → length book ≡ length book′ → length queue ≡ length queue′ → take (24 * t .used) book ≡ take (24 * t .used) book′
+    → ((i : ℕ) → i < filled t → word queue (516 * i) ≡ word queue′ (516 * i)) → inForm t book queue ≡ inForm t book′ queue′
+unfolding inForm bookFits stateFits queueFits
+form-reads t book book′ queue queue′ b q used lengths =
+    let entries : rows book (t .used) ≡ rows book′ (t .used) = sym (rows-take book (t .used)) ∙ ap (λ (l : List ℕ). rows l (t .used)) used ∙ rows-take book′ (t .used) in
+    rw (b, q, entries, lengths-alike queue queue′ (filled t) lengths)

@@ -1,0 +1,113 @@
+-- What holds of every recount that calls lead to: the sizes fit the window, what is listed fits the book, and H is within the limits. It is what the recount's own
+-- refusals leave. Assumes nothing.
+use mathlib.Core.Path.{_≡_, refl}
+use Prim.Native.Nat.{ℕ, zero, suc, _*_, _/_, _%_, _≤_, _<_, zero-le}
+use native.Mathlib.Omega.{arith}
+use mathlib.Core.List.{List, [], _∷_, _++_, flatMap}
+use mathlib.Core.Bool.{Bool, true, false, cond, _&&_}
+use lib.Dec.{leb, ltb, eqb}
+use lib.ListN.{length, length-append}
+use borrow.Author.Tests.{leb-true, ltb-true, eqb-true}
+use Rattle.book.specs.Path.{pathOf}
+use Rattle.book.specs.Calls.{unlessRefused}
+use Rattle.book.specs.Recount.{enterAll, listing}
+use Rattle.book.specs.Figures.{All, Whole, AllWhole, Ranks, AllRanks}
+use Rattle.book.specs.Claims.{BookCall, opening, add, Recount, openRefusal, addRefusal, restarted, joined, recountStep, InBytes}
+use Rattle.priors.proofs.Tests.{both}
+use Rattle.book.proofs.PathLaws.{all-bytes, length-steps, steps-ranks}
+
+-- what an opening that is not refused tells
+pub record Sizes (window bookSize queueSize : ℕ) : Type 0 where
+  pub window-le : window ≤ 1024
+  pub book-some : 24 ≤ bookSize
+  pub book-whole : bookSize % 24 ≡ 0
+  pub book-le : bookSize ≤ 24 * 16384
+  pub queue-fits : 516 * window ≤ queueSize
+
+pub record Kept (r : Recount) : Type 0 where
+  pub sizes : Sizes (r .window) (r .bookSize) (r .queueSize)
+  pub listed-le : length (listing (r .paths)) ≤ r .bookSize / 24
+  pub paths-le : length (r .paths) ≤ 16777216
+  pub whole : AllWhole (r .paths)
+  pub ranks : AllRanks (r .paths)
+
+-- what an add that is not refused tells
+pub record Taken (r : Recount) (path : List ℕ) : Type 0 where
+  pub steps-some : 8 ≤ length path
+  pub steps-le : length path ≤ 512
+  pub steps-whole : length path % 8 ≡ 0
+  pub paths-lt : length (r .paths) < 16777216
+  pub room : length (listing (r .paths ++ pathOf path ∷ [])) ≤ r .bookSize / 24
+
+-- ---- what a number tells
+
+-- a number that is 0 only where a test holds
+passed : (t : Bool) (m n : ℕ) → cond t m (suc n) ≡ 0 → (t ≡ true) × (m ≡ 0)
+passed true m n h = (refl, h)
+passed false m n h = absurd (omega arith)
+
+pub open-sizes : (w b q : ℕ) → openRefusal w b q ≡ 0 → Sizes w b q
+unfolding openRefusal
+open-sizes w b q h =
+    let window = passed (leb w 1024) _ 7 h in
+    let fits = passed ((leb 24 b && (eqb (b % 24) 0 && leb b (24 * 16384))) && leb (516 * w) q) 0 8 (window .1) in
+    let sides = both (leb 24 b && (eqb (b % 24) 0 && leb b (24 * 16384))) (leb (516 * w) q) (fits .0) in
+    let low = both (leb 24 b) (eqb (b % 24) 0 && leb b (24 * 16384)) (sides .0) in
+    let high = both (eqb (b % 24) 0) (leb b (24 * 16384)) (low .1) in
+    record {
+      window-le = leb-true w 1024 (window .0);
+      book-some = leb-true 24 b (low .0);
+      book-whole = eqb-true (b % 24) 0 (high .0);
+      book-le = leb-true b (24 * 16384) (high .1);
+      queue-fits = leb-true (516 * w) q (sides .1);
+    }
+
+pub add-taken : (r : Recount) (path : List ℕ) → addRefusal r path ≡ 0 → Taken r path
+unfolding addRefusal
+add-taken r path h =
+    let n : ℕ = length path in
+    let steps = passed (leb 8 n && (leb n 512 && eqb (n % 8) 0)) _ 9 h in
+    let paths = passed (ltb (length (r .paths)) 16777216) _ 10 (steps .1) in
+    let listed = passed (leb (length (listing (r .paths ++ pathOf path ∷ []))) (r .bookSize / 24)) 0 11 (paths .1) in
+    let low = both (leb 8 n) (leb n 512 && eqb (n % 8) 0) (steps .0) in
+    let high = both (leb n 512) (eqb (n % 8) 0) (low .1) in
+    record {
+      steps-some = leb-true 8 n (low .0);
+      steps-le = leb-true n 512 (high .0);
+      steps-whole = eqb-true (n % 8) 0 (high .1);
+      paths-lt = ltb-true (length (r .paths)) 16777216 (paths .0);
+      room = leb-true (length (listing (r .paths ++ pathOf path ∷ []))) (r .bookSize / 24) (listed .0);
+    }
+
+-- ---- one call
+
+all-snoc : {X : Type 0} (P : X → Type 0) (xs : List X) (x : X) → All P xs → P x → All P (xs ++ x ∷ [])
+all-snoc P [] x h i = (i, tt)
+all-snoc P (y ∷ xs) x h i = (h .0, all-snoc P xs x (h .1) i)
+
+pub path-whole : (path : List ℕ) → 8 ≤ length path → length path ≤ 512 → Whole (pathOf path)
+path-whole path a b = let n : length (pathOf path) ≡ length path / 8 = length-steps path (length path / 8) in (omega arith, omega arith)
+
+pub kept-restarted : (w b q : ℕ) → Sizes w b q → Kept (restarted w b q)
+unfolding listing enterAll flatMap
+kept-restarted w b q s = record { sizes = s; listed-le = zero-le; paths-le = zero-le; whole = tt; ranks = tt }
+
+pub kept-joined : (r : Recount) (path : List ℕ) → Kept r → All (λ b. b < 256) path → Taken r path → Kept (joined r (pathOf path))
+kept-joined r path k bytes t = record {
+  sizes = k .sizes;
+  listed-le = t .room;
+  paths-le = omega (arith, length-append (r .paths) (pathOf path ∷ []), t .paths-lt);
+  whole = all-snoc Whole (r .paths) (pathOf path) (k .whole) (path-whole path (t .steps-some) (t .steps-le));
+  ranks = all-snoc Ranks (r .paths) (pathOf path) (k .ranks) (steps-ranks path (all-bytes path bytes) (length path / 8));
+}
+
+kept-unless : (n : ℕ) (s r : Recount) → (n ≡ 0 → Kept s) → Kept r → Kept (unlessRefused n s r)
+kept-unless zero s r f k = f refl
+kept-unless (suc n) s r f k = k
+
+pub kept-step : (r : Recount) (c : BookCall) → Kept r → InBytes c → Kept (recountStep r c .1)
+unfolding recountStep
+kept-step r (opening w book queue) k bytes =
+    kept-unless (openRefusal w (length book) (length queue)) (restarted w (length book) (length queue)) r
+    (λ e. kept-restarted w (length book) (length queue) (open-sizes w (length book) (length queue) e)) k
+kept-step r (add path) k bytes = kept-unless (addRefusal r path) (joined r (pathOf path)) r (λ e. kept-joined r path k bytes (add-taken r path e)) k

@@ -1,0 +1,47 @@
+-- Read in this order. The recount's rows, and the step from H to H with one more path:
+pub mod Passes
+pub mod ManyRows
+pub mod Occurrences
+pub mod Window
+pub mod Image
+pub mod Step
+-- what follows from the rows being the recount's:
+pub mod Rebuilt
+pub mod Sums
+pub mod Meaning
+pub mod Membership
+pub mod ListingForm
+-- what code needs besides, one pass over a path and the number of rows that would come in:
+pub mod OnePass
+pub mod Loops
+pub mod Lengths
+pub mod DryRun
+-- keys and entries in bytes:
+pub mod KeyLaws
+pub mod EntryLaws
+pub mod HalvingLaws
+pub mod GapLaws
+pub mod ChangeLaws
+pub mod BookLaws
+-- paths, the queue and the book in bytes:
+pub mod PathLaws
+pub mod Tiles
+pub mod QueueLaws
+pub mod QueueImage
+pub mod BookImage
+-- what the functions of src are shown by:
+pub mod FormLaws
+pub mod StepLaws
+pub mod PassLaws
+pub mod PlaceLaws
+pub mod RoomLaws
+pub mod CallLaws
+-- the claim over lists of calls:
+pub mod Kept
+pub mod RefusalLaws
+pub mod FormImage
+pub mod Simulation
+pub mod Claimed
+pub mod Corollaries
+-- the definitions on small numbers:
+pub mod Examples

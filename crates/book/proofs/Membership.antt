@@ -1,0 +1,118 @@
+-- What stands in a list, told by how often it does; in joined lists, in ascending lists, and in a listing that keys were entered into. Assumes nothing.
+use mathlib.Core.Path.{_≡_, refl}
+use mathlib.Core.Logic.{_⊎_, inl, inr, ⊎-elim}
+use Prim.Native.Nat.{ℕ, zero, suc, _≤_, _<_}
+use native.Mathlib.Omega.{arith}
+use mathlib.Core.List.{List, [], _∷_, _++_, flatMap}
+use borrow.Author.Tests.{eq-eqb}
+use Rattle.priors.specs.Rows.{Ascends}
+use Rattle.book.specs.Path.{Steps, listedKeys}
+use Rattle.book.specs.Recount.{occurrences, enter, enterAll, listing}
+use Rattle.priors.proofs.Orders.{Alike, alike, unlike, compared, Side, below, same, above, side}
+use Rattle.book.proofs.Occurrences.{occ-nil, occ-cons, occ-append}
+
+-- k stands in the list
+abbrev pub In : ℕ → List ℕ → Type 0
+In k ks = 0 < occurrences k ks
+
+-- ---- membership, by cases
+
+pub in-tail : (k x : ℕ) (ks : List ℕ) → In k ks → In k (x ∷ ks)
+in-tail k x ks h = omega (arith, occ-cons k x ks)
+
+pub in-head : (k x : ℕ) (ks : List ℕ) → k ≡ x → In k (x ∷ ks)
+unfolding occurrences
+in-head k x ks q = rw (eq-eqb k x q) (omega arith)
+
+pub in-cons : (k x : ℕ) (ks : List ℕ) → In k (x ∷ ks) → (k ≡ x) ⊎ In k ks
+unfolding occurrences
+in-cons k x ks h = go (compared k x)
+  where
+    go : Alike k x → (k ≡ x) ⊎ In k ks
+    go (alike q e) = inl q
+    go (unlike q e) = inr (rw e at h)
+
+pub in-append : (k : ℕ) (xs ys : List ℕ) → In k (xs ++ ys) → In k xs ⊎ In k ys
+in-append k xs ys h = go (occurrences k xs) refl
+  where
+    go : (n : ℕ) → occurrences k xs ≡ n → In k xs ⊎ In k ys
+    go zero e = inr (omega (arith, occ-append k xs ys))
+    go (suc n) e = inl (omega arith)
+
+pub in-left : (k : ℕ) (xs ys : List ℕ) → In k xs → In k (xs ++ ys)
+in-left k xs ys h = omega (arith, occ-append k xs ys)
+
+pub in-right : (k : ℕ) (xs ys : List ℕ) → In k ys → In k (xs ++ ys)
+in-right k xs ys h = omega (arith, occ-append k xs ys)
+
+pub in-none : {X : Type 0} (k : ℕ) → In k [] → X
+in-none k h = absurd (omega (arith, occ-nil k))
+
+-- what stands in an ascending list is not below its bound
+pub in-above : (a k : ℕ) (ks : List ℕ) → Ascends a ks → In k ks → a ≤ k
+in-above a k [] h i = in-none k i
+in-above a k (x ∷ ks) h i = go (in-cons k x ks i) (in-above (suc x) k ks (h .1))
+  where
+    go : (k ≡ x) ⊎ In k ks → (In k ks → suc x ≤ k) → a ≤ k
+    go (inl q) ih = omega arith
+    go (inr m) ih = omega (arith, ih m)
+
+-- ---- what entering keys lists
+
+pub in-enter : (j k : ℕ) (xs : List ℕ) → In j (enter k xs) → (j ≡ k) ⊎ In j xs
+unfolding enter
+in-enter j k [] h = in-cons j k [] h
+in-enter j k (x ∷ xs) h = go (side k x) h (in-enter j k xs)
+  where
+    go : Side k x → In j (enter k (x ∷ xs)) → (In j (enter k xs) → (j ≡ k) ⊎ In j xs) → (j ≡ k) ⊎ In j (x ∷ xs)
+    go (below l e) h ih = in-cons j k (x ∷ xs) (rw e at h)
+    go (same q e) h ih = inr (rw e at h)
+    go (above l e) h ih = ⊎-elim (λ q. inr (in-head j x xs q)) (λ m. ⊎-elim inl (λ n. inr (in-tail j x xs n)) (ih m)) (in-cons j x (enter k xs) (rw e at h))
+
+pub enter-in : (k : ℕ) (xs : List ℕ) → In k (enter k xs)
+unfolding enter
+enter-in k [] = in-head k k [] refl
+enter-in k (x ∷ xs) = go (side k x) (enter-in k xs)
+  where
+    go : Side k x → In k (enter k xs) → In k (enter k (x ∷ xs))
+    go (below l e) ih = rw e (in-head k k (x ∷ xs) refl)
+    go (same q e) ih = rw e (in-head k x xs q)
+    go (above l e) ih = rw e (in-tail k x (enter k xs) ih)
+
+pub enter-keeps : (j k : ℕ) (xs : List ℕ) → In j xs → In j (enter k xs)
+unfolding enter
+enter-keeps j k [] h = in-none j h
+enter-keeps j k (x ∷ xs) h = go (side k x) (enter-keeps j k xs)
+  where
+    go : Side k x → (In j xs → In j (enter k xs)) → In j (enter k (x ∷ xs))
+    go (below l e) ih = rw e (in-tail j k (x ∷ xs) h)
+    go (same q e) ih = rw e h
+    go (above l e) ih = rw e (⊎-elim (λ q. in-head j x (enter k xs) q) (λ m. in-tail j x (enter k xs) (ih m)) (in-cons j x xs h))
+
+pub in-enterAll : (j : ℕ) (ks xs : List ℕ) → In j (enterAll ks xs) → In j ks ⊎ In j xs
+unfolding enterAll
+in-enterAll j [] xs h = inr h
+in-enterAll j (k ∷ ks) xs h = ⊎-elim (λ m. inl (in-tail j k ks m)) (λ m. ⊎-elim (λ q. inl (in-head j k ks q)) inr (in-enter j k xs m)) (in-enterAll j ks (enter k xs) h)
+
+pub enterAll-keeps : (j : ℕ) (ks xs : List ℕ) → In j xs → In j (enterAll ks xs)
+unfolding enterAll
+enterAll-keeps j [] xs h = h
+enterAll-keeps j (k ∷ ks) xs h = enterAll-keeps j ks (enter k xs) (enter-keeps j k xs h)
+
+pub enterAll-in : (j : ℕ) (ks xs : List ℕ) → In j ks → In j (enterAll ks xs)
+unfolding enterAll
+enterAll-in j [] xs h = in-none j h
+enterAll-in j (k ∷ ks) xs h = go (in-cons j k ks h) (enterAll-in j ks (enter k xs))
+  where
+    go : (j ≡ k) ⊎ In j ks → (In j ks → In j (enterAll ks (enter k xs))) → In j (enterAll ks (enter k xs))
+    go (inl q) ih = enterAll-keeps j ks (enter k xs) (rw q (enter-in k xs))
+    go (inr m) ih = ih m
+
+-- a key is in the listing just where some path lists it
+pub in-listing : (H : List Steps) (k : ℕ) → In k (listing H) → In k (flatMap listedKeys H)
+unfolding listing
+in-listing H k m = ⊎-elim (λ i. i) (λ i. in-none k i) (in-enterAll k (flatMap listedKeys H) [] m)
+
+pub listing-in : (H : List Steps) (k : ℕ) → In k (flatMap listedKeys H) → In k (listing H)
+unfolding listing
+listing-in H k m = enterAll-in k (flatMap listedKeys H) [] m

@@ -1,0 +1,127 @@
+-- How many rows there are at most (two for each step, less one for each path), what they count in all (one for each step of the window part), and how much one
+-- of them counts at most. Assumes nothing.
+use mathlib.Core.Path.{_≡_, refl, sym, ap, _∙_}
+use Prim.Native.Nat.{ℕ, zero, suc, _+_, _*_, _-_, _≤_}
+use native.Mathlib.Omega.{arith}
+use mathlib.Core.List.{List, [], _∷_, flatMap}
+use mathlib.Core.Option.{some}
+use mathlib.Core.Bool.{Bool, true, false, cond}
+use lib.Dec.{eqb}
+use lib.ListN.{length, drop, length-append, length-map}
+use Rattle.priors.specs.Rows.{Row, change}
+use Rattle.book.specs.Path.{Steps, listedKeys, countedKeys}
+use Rattle.book.specs.Changes.{changeAll, touchAll}
+use Rattle.book.specs.Recount.{occurrences, windowPart, counted, rowsOf, enter, enterAll, listing}
+use Rattle.book.specs.Figures.{total, AllWhole}
+use Rattle.priors.proofs.Orders.{Side, below, same, above, side}
+use Rattle.book.proofs.Passes.{sum}
+use Rattle.book.proofs.Image.{keys-rows}
+use Rattle.book.proofs.Rebuilt.{rows-rebuilt}
+
+-- ---- lengths of a path's keys
+
+pub length-counted : (p : Steps) → length (countedKeys p) ≡ length p
+unfolding countedKeys
+length-counted [] = refl
+length-counted (a ∷ []) = refl
+length-counted (a ∷ b ∷ p) = ap suc (length-counted (b ∷ p))
+
+pub length-listed : (p : Steps) → 1 ≤ length p → length (listedKeys p) + 1 ≡ 2 * length p
+unfolding listedKeys
+length-listed [] h = absurd (omega arith)
+length-listed (a ∷ []) h = refl
+length-listed (a ∷ b ∷ p) h = omega (arith, length-listed (b ∷ p) (omega arith))
+
+length-all : (f : Steps → List ℕ) (H : List Steps) → length (flatMap f H) ≡ total (λ p. length (f p)) H
+unfolding flatMap total
+length-all f [] = refl
+length-all f (p ∷ H) = length-append (f p) (flatMap f H) ∙ ap (λ (n : ℕ). length (f p) + n) (length-all f H)
+
+-- ---- how many rows: at most two for each step, less one for each path
+
+length-enter : (k : ℕ) (xs : List ℕ) → length (enter k xs) ≤ suc (length xs)
+unfolding enter
+length-enter k [] = omega arith
+length-enter k (x ∷ xs) = go (side k x) (length-enter k xs)
+  where
+    go : Side k x → length (enter k xs) ≤ suc (length xs) → length (enter k (x ∷ xs)) ≤ suc (suc (length xs))
+    go (below l e) ih = rw e (omega arith)
+    go (same q e) ih = rw e (omega arith)
+    go (above l e) ih = rw e (omega arith)
+
+length-enterAll : (ks xs : List ℕ) → length (enterAll ks xs) ≤ length ks + length xs
+unfolding enterAll
+length-enterAll [] xs = omega arith
+length-enterAll (k ∷ ks) xs = omega (arith, length-enterAll ks (enter k xs), length-enter k xs)
+
+listed-total : (H : List Steps) → AllWhole H → length (flatMap listedKeys H) + length H ≡ 2 * total length H
+unfolding flatMap total
+listed-total [] h = refl
+listed-total (p ∷ H) h = omega (arith, length-append (listedKeys p) (flatMap listedKeys H), length-listed p (h .0 .0), listed-total H (h .1))
+
+pub length-rows : (W : ℕ) (H : List Steps) → AllWhole H → length (rowsOf W H) + length H ≤ 2 * total length H
+unfolding listing
+length-rows W H h =
+    let n : length (rowsOf W H) ≡ length (listing H) = sym (length-map (rowsOf W H) (λ (r : Row). r .key)) ∙ ap length (keys-rows W H) in
+    omega (arith, length-enterAll (flatMap listedKeys H) [], listed-total H h)
+
+-- ---- what they count in all: a count for each step of the window part
+
+module _ (d : ℕ) (step : ℕ → ℕ) (adds : (c : ℕ) → step c ≡ c + d) where
+  sum-change : (k : ℕ) (rs : List Row) → sum (change (some d) step k rs) ≡ d + sum rs
+  unfolding sum change
+  sum-change k [] = refl
+  sum-change k (r ∷ rs) = go (side k (r .key)) (sum-change k rs)
+    where
+      go : Side k (r .key) → sum (change (some d) step k rs) ≡ d + sum rs → sum (change (some d) step k (r ∷ rs)) ≡ d + sum (r ∷ rs)
+      go (below l e) ih = rw e
+      go (same q e) ih = rw e (omega (arith, adds (r .count)))
+      go (above l e) ih = rw e (omega arith)
+
+  sum-all : (ks : List ℕ) (rs : List Row) → sum (changeAll (some d) step ks rs) ≡ length ks * d + sum rs
+  unfolding changeAll
+  sum-all [] rs = omega arith
+  sum-all (k ∷ ks) rs = omega (arith, sum-all ks (change (some d) step k rs), sum-change k rs)
+
+pub sum-rows : (W : ℕ) (H : List Steps) → sum (rowsOf W H) ≡ total length (windowPart W H)
+unfolding sum
+sum-rows W H =
+    let c : List ℕ = flatMap countedKeys (windowPart W H) in
+    let l : List ℕ = flatMap listedKeys H in
+    let n : length c ≡ total (λ p. length (countedKeys p)) (windowPart W H) = length-all countedKeys (windowPart W H) in
+    let steps : total (λ p. length (countedKeys p)) (windowPart W H) ≡ total length (windowPart W H) = simp length-counted in
+    rw rows-rebuilt (omega (arith, sum-all 1 (λ c. c + 1) (λ c. refl) c (touchAll l []), sum-all 0 (λ c. c) (λ c. omega arith) l []))
+
+-- ---- what one of them counts: at most 64 for each path
+
+occ-length : (k : ℕ) (ks : List ℕ) → occurrences k ks ≤ length ks
+unfolding occurrences
+occ-length k [] = omega arith
+occ-length k (x ∷ ks) = go (eqb k x) (occ-length k ks)
+  where
+    go : (b : Bool) → occurrences k ks ≤ length ks → cond b (suc (occurrences k ks)) (occurrences k ks) ≤ suc (length ks)
+    go true ih = omega arith
+    go false ih = omega arith
+
+total-whole : (H : List Steps) → AllWhole H → total length H ≤ 64 * length H
+unfolding total
+total-whole [] h = omega arith
+total-whole (p ∷ H) h = omega (arith, total-whole H (h .1))
+
+total-drop : (n : ℕ) (H : List Steps) → total length (drop n H) ≤ total length H
+unfolding total
+total-drop zero H = omega arith
+total-drop (suc n) [] = omega arith
+total-drop (suc n) (p ∷ H) = omega (arith, total-drop n H)
+
+total-window : (W : ℕ) (H : List Steps) → total length (windowPart W H) ≤ total length H
+unfolding windowPart
+total-window zero H = omega arith
+total-window (suc w) H = total-drop (length H - suc w) H
+
+pub counted-small : (W : ℕ) (H : List Steps) (k : ℕ) → AllWhole H → counted W H k ≤ 64 * length H
+unfolding counted
+counted-small W H k h =
+    let n : length (flatMap countedKeys (windowPart W H)) ≡ total (λ p. length (countedKeys p)) (windowPart W H) = length-all countedKeys (windowPart W H) in
+    let steps : total (λ p. length (countedKeys p)) (windowPart W H) ≡ total length (windowPart W H) = simp length-counted in
+    omega (arith, occ-length k (flatMap countedKeys (windowPart W H)), total-window W H, total-whole H h)

@@ -1,0 +1,78 @@
+-- The window part where one more path joins: what leaves, and then the new window part, are the old one and the new path.
+-- So whatever is counted over the window part loses what the leaving path counts and gains what the new one does. Assumes nothing.
+use mathlib.Core.Path.{_≡_, refl, _∙_}
+use Prim.Native.Nat.{ℕ, zero, suc, _+_, _-_, _≤_, _<_}
+use mathlib.Core.List.{List, [], _∷_, _++_, flatMap}
+use mathlib.Core.Option.{Option, none, some}
+use mathlib.Core.Bool.{Bool, true, false, cond}
+use native.Mathlib.Omega.{arith}
+use lib.Dec.{leb}
+use lib.ListN.{length, getD, drop, length-append, length-drop}
+use lib.Seq.{drop-cons, drop-append-le}
+use borrow.Author.Tests.{leb-true, leb-false, le-leb}
+use Rattle.book.specs.Path.{Steps, listedKeys, countedKeys}
+use Rattle.book.specs.Changes.{leftKeys}
+use Rattle.book.specs.Recount.{occurrences, windowPart, sequenceLength, counted}
+use Rattle.book.specs.Figures.{inWindow}
+use Rattle.book.proofs.Passes.{leavingPath}
+use Rattle.book.proofs.Occurrences.{occ-paths, occ-one, occ-drop, counted-listed-all}
+
+-- the path that leaves, as a list of one path or none
+abbrev pub left : Option Steps → List Steps
+left none = []
+left (some l) = l ∷ []
+
+-- where H fills the window, the path that leaves is the first of the window part
+pub leaving-first : (w : ℕ) (H : List Steps) → suc w ≤ length H → (l : Steps) × (leavingPath (suc w) H ≡ some l) × (windowPart (suc w) H ≡ l ∷ drop (suc (length H - suc w)) H)
+unfolding leavingPath windowPart
+leaving-first w H h = (getD H (length H - suc w) [], rw (le-leb (suc w) (length H) h), drop-cons H (length H - suc w) [] (omega arith))
+
+pub window-step : (W : ℕ) (H : List Steps) (p : Steps) → left (leavingPath W H) ++ windowPart W (H ++ p ∷ []) ≡ windowPart W H ++ p ∷ []
+unfolding leavingPath windowPart
+window-step zero H p = refl
+window-step (suc w) H p = go (leb (suc w) (length H)) refl
+  where
+    n : ℕ
+    n = length H
+
+    len : length (H ++ p ∷ []) ≡ suc n
+    len = length-append H (p ∷ []) ∙ omega arith
+
+    go : (b : Bool) → leb (suc w) n ≡ b → left (cond b (some (getD H (n - suc w) [])) none) ++ drop (length (H ++ p ∷ []) - suc w) (H ++ p ∷ []) ≡ drop (n - suc w) H ++ p ∷ []
+    go true t =
+        let l : suc w ≤ n = leb-true (suc w) n t in
+        let at : length (H ++ p ∷ []) - suc w ≡ suc (n - suc w) = omega (arith, len) in
+        let rest : drop (suc (n - suc w)) (H ++ p ∷ []) ≡ drop (suc (n - suc w)) H ++ p ∷ [] = drop-append-le (suc (n - suc w)) H (p ∷ []) (omega arith) in
+        let first : drop (n - suc w) H ≡ getD H (n - suc w) [] ∷ drop (suc (n - suc w)) H = drop-cons H (n - suc w) [] (omega arith) in
+        rw (at, rest, first)
+    go false t =
+        let l : n < suc w = leb-false (suc w) n t in
+        let at : length (H ++ p ∷ []) - suc w ≡ 0 = omega (arith, len) in
+        let before : n - suc w ≡ 0 = omega arith in
+        rw (at, before)
+
+left-keys : (k : ℕ) (o : Option Steps) → occurrences k (flatMap countedKeys (left o)) ≡ occurrences k (leftKeys o)
+unfolding flatMap
+left-keys k none = refl
+left-keys k (some l) = occ-one countedKeys k l
+
+-- how often a key is counted, before and after
+pub counted-step : (W : ℕ) (H : List Steps) (p : Steps) (k : ℕ)
+    → occurrences k (leftKeys (leavingPath W H)) + counted W (H ++ p ∷ []) k ≡ counted W H k + occurrences k (countedKeys p)
+unfolding counted
+counted-step W H p k =
+    let whole : occurrences k (flatMap countedKeys (left (leavingPath W H) ++ windowPart W (H ++ p ∷ []))) ≡ occurrences k (flatMap countedKeys (windowPart W H ++ p ∷ [])) = rw window-step in
+    omega (arith, occ-paths countedKeys k (left (leavingPath W H)) (windowPart W (H ++ p ∷ [])), occ-paths countedKeys k (windowPart W H) (p ∷ []), occ-one countedKeys k p, left-keys k (leavingPath W H))
+
+-- what the window part counts is listed
+pub counted-le : (W : ℕ) (H : List Steps) (k : ℕ) → counted W H k ≤ occurrences k (flatMap listedKeys H)
+unfolding counted windowPart
+counted-le zero H k = counted-listed-all k H
+counted-le (suc w) H k = omega (arith, occ-drop countedKeys k (length H - suc w) H, counted-listed-all k H)
+
+-- ---- the sequence length, from the window and the number of paths
+
+pub sequence-length : (W : ℕ) (H : List Steps) → sequenceLength W H ≡ inWindow W (length H)
+unfolding sequenceLength windowPart
+sequence-length zero H = refl
+sequence-length (suc w) H = length-drop (length H - suc w) H ∙ omega arith

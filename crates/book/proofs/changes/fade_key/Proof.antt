@@ -1,0 +1,78 @@
+-- The search finds the key's place; its count is lowered there, or a missing key is passed over.
+-- Assumes nothing.
+use mathlib.Core.Path.{_≡_, refl}
+use mathlib.Core.List.{List}
+use mathlib.Core.Option.{none}
+use Prim.Native.Nat.{ℕ, _+_, _-_, _*_}
+use native.Mathlib.Omega.{arith}
+use Rattle.priors.specs.Rows.{Row}
+use Rattle.book.specs.declared.entries.Found.the-variants.{At, Missing}
+use Rattle.book.specs.Keys.{keyValue}
+use Rattle.book.specs.Entries.{rows, findIn}
+use Rattle.priors.proofs.Ranks.{word-lt}
+use Rattle.book.specs.Entries.{countAt}
+use Rattle.book.proofs.BookLaws.{at-lt, changed-at, passed-over}
+use borrow.Author.Needs.{needs}
+use Rattle.book.proofs.changes.fade_key.Statement.{statement}
+use Rattle.book.proofs.changes.fade_key.Tie as tie
+
+abbrev rs : tie.Start → List Row
+rs st = rows (st .args .book .now) (st .args .used)
+
+abbrev k : tie.Start → ℕ
+k st = keyValue (st .args .key)
+
+-- where the key was found
+abbrev start-at : tie.After-i → tie.Start
+start-at c = c .before .before .before .before .before
+
+is-at : (c : tie.After-i) → findIn (rs (start-at c)) (k (start-at c)) ≡ At (c .i .given .0 .0)
+is-at c = cc
+
+find-requires : tie.Need-find-requires
+find-requires c κs = search needs
+
+enum-known-i : tie.Need-enum-known-i
+enum-known-i c = search needs
+
+fade-requires : tie.Need-fade-requires
+fade-requires c κs =
+    let i = c .before .before in
+    let st = start-at i in
+    omega (arith, at-lt (st .args .book .now) (st .args .used) (k st) (i .i .given .0 .0) (st .pre .0) (is-at i))
+
+enum-told : tie.Need-enum-told
+enum-told c = search needs
+
+same-length : tie.Need-same-length
+same-length c = search needs
+
+returns : tie.Need-returns
+returns c =
+    let i = c .before .before .before .before .before in
+    let st = start-at i in
+    let low = word-lt (st .args .book .now) (c .before .before .before .before .before .before .before .before .before .slice-known .given) (24 * i .i .given .0 .0 + 20) in
+    rw (c .before .before .fade .ensures)
+    (changed-at (st .args .book .now) (st .args .used) (k st) (i .i .given .0 .0) (st .pre .0) (is-at i) none (λ d. d - 1) (countAt (st .args .book .now) (i .i .given .0 .0) - 1) refl (omega arith))
+
+same-length-2 : tie.Need-same-length-2
+same-length-2 c = search needs
+
+returns-2 : tie.Need-returns-2
+returns-2 c =
+    let st = c .before .before .before .before .before in
+    let missing : findIn (rs st) (k st) ≡ Missing (c .enum-told .given .0 .0) = cc in
+    passed-over (st .args .book .now) (st .args .used) (k st) (c .enum-told .given .0 .0) (st .pre .0) missing (λ d. d - 1)
+
+pub fade-key-spec : {M : Type 1} → statement M
+fade-key-spec =
+    tie.close
+    (tie.spec
+    find-requires
+    enum-known-i
+    fade-requires
+    enum-told
+    same-length
+    returns
+    same-length-2
+    returns-2)

@@ -1,0 +1,107 @@
+-- The search finds the key's place; its count is raised there, or a missing key comes in.
+-- Assumes nothing.
+use mathlib.Core.Path.{_≡_, refl}
+use mathlib.Core.List.{List}
+use mathlib.Core.Option.{some}
+use Prim.Native.Nat.{ℕ, _+_, _-_, _^_, _≤_}
+use native.Mathlib.Omega.{arith}
+use Rattle.priors.specs.Rows.{Row}
+use Rattle.book.specs.declared.entries.Found.the-variants.{At, Missing}
+use Rattle.book.specs.Keys.{keyValue}
+use Rattle.book.specs.Entries.{rows, findIn}
+use Rattle.book.specs.Entries.{countAt}
+use Rattle.book.proofs.EntryLaws.{length-rows}
+use Rattle.book.proofs.ChangeLaws.{count-is}
+use Rattle.book.proofs.BookLaws.{key-in-range, at-lt, missing-le, length-in, changed-at, changed-in, count-up-to}
+use borrow.Author.Needs.{needs}
+use Rattle.book.proofs.changes.note.Statement.{statement}
+use Rattle.book.proofs.changes.note.Tie as tie
+
+abbrev rs : tie.Start → List Row
+rs st = rows (st .args .book .now) (st .args .used)
+
+abbrev k : tie.Start → ℕ
+k st = keyValue (st .args .key)
+
+-- where the key was found
+abbrev start-at : tie.After-i → tie.Start
+start-at c = c .before .before .before .before .before
+
+is-at : (c : tie.After-i) → findIn (rs (start-at c)) (k (start-at c)) ≡ At (c .i .given .0 .0)
+is-at c = cc
+
+-- its count can be raised
+count-fits : (i : tie.After-i) → countAt (start-at i .args .book .now) (i .i .given .0 .0) ≤ 2 ^ 32 - 2
+count-fits i =
+    let st = start-at i in
+    let l = at-lt (st .args .book .now) (st .args .used) (k st) (i .i .given .0 .0) (st .pre .0) (is-at i) in
+    let len = length-rows (st .args .book .now) (st .args .used) in
+    rw (count-is (st .args .book .now) (st .args .used) (i .i .given .0 .0) l) at (count-up-to (2 ^ 32 - 2) (rs st) (st .pre .1 .1 .0) (i .i .given .0 .0) (omega arith))
+
+-- where it is missing
+abbrev start-missing : tie.After-i2 → tie.Start
+start-missing c = c .before .before .before .before .before
+
+is-missing : (c : tie.After-i2) → findIn (rs (start-missing c)) (k (start-missing c)) ≡ Missing (c .i2 .given .0 .0)
+is-missing c = cc
+
+find-requires : tie.Need-find-requires
+find-requires c κs = search needs
+
+enum-known-i : tie.Need-enum-known-i
+enum-known-i c = search needs
+
+bump-requires : tie.Need-bump-requires
+bump-requires c κs =
+    let i = c .before .before in
+    let st = start-at i in
+    (omega (arith, at-lt (st .args .book .now) (st .args .used) (k st) (i .i .given .0 .0) (st .pre .0) (is-at i)), omega (arith, count-fits i))
+
+enum-known-i-2 : tie.Need-enum-known-i-2
+enum-known-i-2 c = search needs
+
+insert-requires : tie.Need-insert-requires
+insert-requires c κs =
+    let i = c .before .before in
+    let st = start-missing i in
+    let more = length-in (st .args .book .now) (st .args .used) (k st) (i .i2 .given .0 .0) (st .pre .0) (is-missing i) 1 (λ d. d + 1) in
+    (missing-le (st .args .book .now) (st .args .used) (k st) (i .i2 .given .0 .0) (st .pre .0) (is-missing i), omega (arith, st .pre .1 .1 .1))
+
+add-result : tie.Need-add-result
+add-result c = search needs
+
+same-length : tie.Need-same-length
+same-length c = search needs
+
+returns : tie.Need-returns
+returns c =
+    let i = c .before .before .before .before .before in
+    let st = start-at i in
+    rw (c .before .before .bump .ensures)
+    (changed-at (st .args .book .now) (st .args .used) (k st) (i .i .given .0 .0) (st .pre .0) (is-at i) (some 1) (λ d. d + 1) (countAt (st .args .book .now) (i .i .given .0 .0) + 1) refl (omega (arith, count-fits i)))
+
+same-length-2 : tie.Need-same-length-2
+same-length-2 c = search needs
+
+returns-2 : tie.Need-returns-2
+returns-2 c =
+    let i = c .before .before .before .before .before in
+    let st = start-missing i in
+    let more = length-in (st .args .book .now) (st .args .used) (k st) (i .i2 .given .0 .0) (st .pre .0) (is-missing i) 1 (λ d. d + 1) in
+    rw (c .before .before .insert .ensures)
+    (changed-in (st .args .book .now) (st .args .used) (k st) (i .i2 .given .0 .0) (st .pre .0) (is-missing i) 1 (λ d. d + 1) (key-in-range (st .args .key) 1 (omega arith) (omega arith) (omega arith) (omega arith)) (omega (arith, st .pre .1 .1 .1)))
+
+pub note-spec : {M : Type 1} → statement M
+note-spec =
+    tie.close
+    (tie.spec
+    find-requires
+    enum-known-i
+    bump-requires
+    enum-known-i-2
+    insert-requires
+    add-result
+    same-length
+    returns
+    same-length-2
+    returns-2)

@@ -1,0 +1,137 @@
+-- What an opening and an add answer, and what they leave in the lent book and queue. A number is a refusal's; 0 is none. Assumes nothing.
+use mathlib.Core.Path.{_≡_}
+use Prim.Native.Nat.{ℕ, zero, suc, _+_, _-_, _*_, _%_, _/_, _≤_, _<_}
+use mathlib.Core.Bool.{true, cond, not, _&&_}
+use mathlib.Core.List.{List, _++_}
+use mathlib.Core.Option.{Option, none, some}
+use lib.Dec.{ltb, leb}
+use lib.ListN.{length, drop, replicate}
+use Rattle.priors.specs.Word.{word, wordBytes, store}
+use Rattle.priors.specs.Rows.{Row, keys, Ascends}
+use Rattle.priors.specs.Refusals.{numberOf}
+use Rattle.book.specs.declared.trackers.Tracker.{Tracker}
+use Rattle.book.specs.declared.trackers.Opened.{Opened}
+use Rattle.book.specs.declared.trackers.Opened.the-variants.{Fresh, Refused as NotOpened}
+use Rattle.book.specs.declared.trackers.Added.{Added}
+use Rattle.book.specs.declared.trackers.Added.the-variants.{Taken, Refused as NotAdded}
+use Rattle.book.specs.Limits.{maxWindow, maxAccepted, maxCount, maxSteps, entrySize, stepSize, placeSize}
+use Rattle.book.specs.Entries.{rows, bytesOf}
+use Rattle.book.specs.Path.{Steps, stepsOf, pathOf, wholePath, listedKeys}
+use Rattle.book.specs.Form.{capacity, bookFits, queueFits, lengthsFit, filled, inForm}
+use Rattle.book.specs.Changes.{touchAll, addRows, CountsUpTo}
+
+abbrev pub zeros : ℕ → List ℕ
+zeros n = replicate n 0
+
+-- ---- answers: the number, and the state that comes back
+
+abbrev pub openedNumber : Opened → ℕ
+openedNumber (Fresh t) = 0
+openedNumber (NotOpened r) = numberOf r
+
+abbrev pub openedState : Opened → Option Tracker
+openedState (Fresh t) = some t
+openedState (NotOpened r) = none
+
+abbrev pub addedNumber : Added → ℕ
+addedNumber (Taken t) = 0
+addedNumber (NotAdded r t) = numberOf r
+
+abbrev pub addedState : Added → Tracker
+addedState (Taken t) = t
+addedState (NotAdded r t) = t
+
+-- x where nothing is refused, else y
+abbrev pub unlessRefused {ℓ} : {X : Type ℓ} → ℕ → X → X → X
+unlessRefused zero x y = x
+unlessRefused (suc n) x y = y
+
+-- ---- an opening
+
+unfoldable pub openNumber : ℕ → List ℕ → List ℕ → ℕ
+openNumber window book queue = cond (ltb maxWindow window) 8 (cond (bookFits book && queueFits window queue) 0 9)
+
+abbrev pub fresh : ℕ → Tracker
+fresh window = record { window = window; used = 0; accepted = 0 }
+
+unfoldable pub openState : ℕ → List ℕ → List ℕ → Option Tracker
+openState window book queue = unlessRefused (openNumber window book queue) (some (fresh window)) none
+
+-- the lent book and the lent queue afterwards
+unfoldable pub openBook : ℕ → List ℕ → List ℕ → List ℕ
+openBook window book queue = unlessRefused (openNumber window book queue) (zeros (length book)) book
+
+unfoldable pub openQueue : ℕ → List ℕ → List ℕ → List ℕ
+openQueue window book queue = unlessRefused (openNumber window book queue) (zeros (length queue)) queue
+
+-- ---- an add
+
+-- the index where the place of the next path starts; with a window of 0 there is no place, and the number is not used
+abbrev pub nextPlace : Tracker → ℕ
+nextPlace t = placeSize * (t .accepted % t .window)
+
+-- the steps that lie in the place that starts at index a
+abbrev pub stepsAt : List ℕ → ℕ → Steps
+stepsAt queue a = stepsOf (drop (a + 4) queue) (word queue a)
+
+-- the oldest path past the window: what lies in the place of the next one, once the window is full
+unfoldable pub leaving : Tracker → List ℕ → Option Steps
+leaving t queue = cond (leb 1 (t .window) && leb (t .window) (t .accepted)) (some (stepsAt queue (nextPlace t))) none
+
+-- the rows with the path's nodes and transitions listed
+abbrev pub listedRows : Tracker → List ℕ → List ℕ → List Row
+listedRows t book path = touchAll (listedKeys (pathOf path)) (rows book (t .used))
+
+unfoldable pub addNumber : Tracker → List ℕ → List ℕ → List ℕ → ℕ
+addNumber t book queue path =
+    cond (not (inForm t book queue)) 9
+    (cond (not (wholePath path)) 10
+    (cond (leb maxAccepted (t .accepted)) 11
+    (cond (ltb (capacity book) (length (listedRows t book path))) 12 0)))
+
+-- the rows afterwards
+unfoldable pub rowsAfter : Tracker → List ℕ → List ℕ → List ℕ → List Row
+rowsAfter t book queue path = addRows (pathOf path) (leaving t queue) (rows book (t .used))
+
+-- the state with the path in it
+unfoldable pub stateAfter : Tracker → List ℕ → List ℕ → List ℕ → Tracker
+stateAfter t book queue path = record { window = t .window; used = length (rowsAfter t book queue path); accepted = t .accepted + 1 }
+
+unfoldable pub addState : Tracker → List ℕ → List ℕ → List ℕ → Tracker
+addState t book queue path = unlessRefused (addNumber t book queue path) (stateAfter t book queue path) t
+
+-- the book with the path in it: the entries, and the bytes behind them as they were
+unfoldable pub bookAfter : Tracker → List ℕ → List ℕ → List ℕ → List ℕ
+bookAfter t book queue path = bytesOf (rowsAfter t book queue path) ++ drop (length (bytesOf (rowsAfter t book queue path))) book
+
+-- the lent book afterwards; behind the entries stand the bytes that stood there: zeros from an opening on, anything in memory altered by others
+unfoldable pub addBook : Tracker → List ℕ → List ℕ → List ℕ → List ℕ
+addBook t book queue path = unlessRefused (addNumber t book queue path) (bookAfter t book queue path) book
+
+-- a place of the queue: length, steps, zeros
+unfoldable pub placeBytes : List ℕ → List ℕ
+placeBytes path = wordBytes (length path / stepSize) ++ (path ++ zeros (stepSize * maxSteps - length path))
+
+unfoldable pub queueWith : Tracker → List ℕ → List ℕ → List ℕ
+queueWith t queue path = cond (leb 1 (t .window)) (store queue (nextPlace t) (placeBytes path)) queue
+
+-- the lent queue afterwards
+unfoldable pub addQueue : Tracker → List ℕ → List ℕ → List ℕ → List ℕ
+addQueue t book queue path = unlessRefused (addNumber t book queue path) (queueWith t queue path) queue
+
+-- ---- what an add leans on once no test turns it back
+
+-- there is a place for each path of the window, and the filled ones hold paths
+pub record Leaves (t : Tracker) (queue : List ℕ) : Type 0 where
+  pub places-fit : placeSize * t .window ≤ length queue
+  pub lengths-fit : lengthsFit queue (filled t) ≡ true
+
+pub record Ready (t : Tracker) (book queue path : List ℕ) : Type 0 where
+  pub book-fits : bookFits book ≡ true
+  pub used-fit : entrySize * t .used ≤ length book
+  pub ascends : Ascends 0 (keys (rows book (t .used)))
+  pub counts-fit : CountsUpTo maxCount (rows book (t .used))
+  pub queue-fits : Leaves t queue
+  pub path-whole : wholePath path ≡ true
+  pub not-last : t .accepted < maxAccepted
+  pub room : length (listedRows t book path) ≤ capacity book

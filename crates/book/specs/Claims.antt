@@ -1,0 +1,131 @@
+-- The claim over a list of openings and adds: a machine of state, book bytes and queue bytes, changed call by call as the functions' own definitions say (`Calls`),
+-- gives the answers of a recount that keeps W, H and two lengths and answers from 01's table alone, and it is the image of that recount afterwards. A step takes one
+-- call, so that a layer above can put further kinds of calls beside these. Assumes nothing.
+use Prim.Native.Nat.{ℕ, _*_, _/_, _%_, _<_}
+use mathlib.Core.Path.{_≡_}
+use mathlib.Core.Bool.{cond, _&&_}
+use mathlib.Core.List.{List, [], _∷_, _++_}
+use mathlib.Core.Option.{Option, none, some}
+use lib.Dec.{ltb, leb, eqb}
+use lib.ListN.{length}
+use Rattle.book.specs.declared.trackers.Tracker.{Tracker}
+use Rattle.book.specs.Path.{Steps, pathOf}
+use Rattle.book.specs.Calls.{unlessRefused, openNumber, openState, openBook, openQueue, addNumber, addState, addBook, addQueue}
+use Rattle.book.specs.Recount.{listing, bookImage, queueImage}
+use Rattle.book.specs.Figures.{All}
+
+-- ---- calls and answers
+
+-- an opening is lent a book and a queue of its own, whatever they hold; an add is lent what the calls since the last accepted opening left
+pub data BookCall : Type 0 where
+  opening : (window : ℕ) (book queue : List ℕ) → BookCall
+  add : (path : List ℕ) → BookCall
+
+-- the refusal's number, 0 for none, and the state that comes back; a refused opening gives none
+pub record BookAnswer : Type 0 where
+  pub number : ℕ
+  pub state : Option Tracker
+
+-- the answers to calls of any kind, one after another, and what the last one leaves
+unfoldable pub runs : {Call Answer State : Type 0} → (State → Call → Answer × State) → State → List Call → List Answer × State
+runs step s [] = ([], s)
+runs step s (c ∷ cs) = let rest = runs step (step s c .1) cs in (step s c .0 ∷ rest .0, rest .1)
+
+-- ---- the machine
+
+pub record Machine : Type 0 where
+  pub state : Tracker
+  pub book : List ℕ
+  pub queue : List ℕ
+
+-- after an opening: what it leaves, or, where it gives no state, what there was
+abbrev pub reopened : Option Tracker → List ℕ → List ℕ → Machine → Machine
+reopened none book queue m = m
+reopened (some t) book queue m = record { state = t; book = book; queue = queue }
+
+unfoldable pub bookStep : Machine → BookCall → BookAnswer × Machine
+bookStep m (opening window book queue) = (
+  record { number = openNumber window book queue; state = openState window book queue },
+  reopened (openState window book queue) (openBook window book queue) (openQueue window book queue) m,
+)
+bookStep m (add path) = (
+  record { number = addNumber (m .state) (m .book) (m .queue) path; state = some (addState (m .state) (m .book) (m .queue) path) },
+  record {
+    state = addState (m .state) (m .book) (m .queue) path;
+    book = addBook (m .state) (m .book) (m .queue) path;
+    queue = addQueue (m .state) (m .book) (m .queue) path;
+  },
+)
+
+-- ---- the recount
+
+pub record Recount : Type 0 where
+  pub window : ℕ
+  pub paths : List Steps
+  pub bookSize : ℕ
+  pub queueSize : ℕ
+
+-- the numbers are those of the table 'Where each call is turned back', written out here once more, so that the claim is a check of the limits too.
+-- An opening gets 8 for a window over 1,024; 9 for a book that is empty, no multiple of 24 bytes or over 16,384 entries, and for a queue under 516 bytes a place
+unfoldable pub openRefusal : ℕ → ℕ → ℕ → ℕ
+openRefusal window bookSize queueSize =
+    cond (leb window 1024)
+    (cond ((leb 24 bookSize && (eqb (bookSize % 24) 0 && leb bookSize (24 * 16384))) && leb (516 * window) queueSize) 0 9)
+    8
+
+-- an add gets 10 for a path that is not 1 to 64 steps of 8 bytes, 11 if H has 16,777,216 paths, 12 if more is listed for H with its path than the book has
+-- entries; never 9
+unfoldable pub addRefusal : Recount → List ℕ → ℕ
+addRefusal r path =
+    cond (leb 8 (length path) && (leb (length path) 512 && eqb (length path % 8) 0))
+    (cond (ltb (length (r .paths)) 16777216)
+    (cond (leb (length (listing (r .paths ++ pathOf path ∷ []))) (r .bookSize / 24)) 0 12)
+    11)
+    10
+
+-- an accepted opening: its window, no paths
+abbrev pub restarted : ℕ → ℕ → ℕ → Recount
+restarted window bookSize queueSize = record { window = window; paths = []; bookSize = bookSize; queueSize = queueSize }
+
+-- an accepted add: its path joins H last
+abbrev pub joined : Recount → Steps → Recount
+joined r p = record { window = r .window; paths = r .paths ++ p ∷ []; bookSize = r .bookSize; queueSize = r .queueSize }
+
+-- the state for W and H: the window, how many nodes and transitions are listed, how many paths there are
+abbrev pub stateImage : Recount → Tracker
+stateImage r = record { window = r .window; used = length (listing (r .paths)); accepted = length (r .paths) }
+
+-- a refused call changes neither W nor H
+unfoldable pub recountStep : Recount → BookCall → BookAnswer × Recount
+recountStep r (opening window book queue) =
+    let n = openRefusal window (length book) (length queue) in
+    let fresh = restarted window (length book) (length queue) in
+    (record { number = n; state = unlessRefused n (some (stateImage fresh)) none }, unlessRefused n fresh r)
+recountStep r (add path) =
+    let n = addRefusal r path in
+    let after = unlessRefused n (joined r (pathOf path)) r in
+    (record { number = n; state = some (stateImage after) }, after)
+
+-- ---- the claim
+
+-- what W and H stand for: the state, and every byte of book and queue
+unfoldable pub image : Recount → Machine
+image r = record {
+  state = stateImage r;
+  book = bookImage (r .window) (r .paths) (r .bookSize);
+  queue = queueImage (r .window) (r .paths) (r .queueSize);
+}
+
+-- an add's path is bytes, each below 256; what an opening is lent may hold anything
+abbrev pub InBytes : BookCall → Type 0
+InBytes (opening window book queue) = Unit {0}
+InBytes (add path) = All (λ b. b < 256) path
+
+-- whatever the machine and the recount were before: from an accepted opening on, for every list of calls, every answer is the recount's, and the machine afterwards
+-- is the image of the recount's W and H
+abbrev pub Claim : Type 0
+Claim =
+    (m : Machine) (r : Recount) (window : ℕ) (book queue : List ℕ) → openRefusal window (length book) (length queue) ≡ 0
+    → (calls : List BookCall) → All InBytes calls
+    → (runs bookStep m (opening window book queue ∷ calls) .0 ≡ runs recountStep r (opening window book queue ∷ calls) .0)
+    × (runs bookStep m (opening window book queue ∷ calls) .1 ≡ image (runs recountStep r (opening window book queue ∷ calls) .1))

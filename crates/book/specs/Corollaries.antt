@@ -1,0 +1,85 @@
+-- What follows from the claim, without the recount: H and W are read off the calls and the numbers that they were answered, as the paths accepted since the last
+-- accepted opening and that opening's window; the book then tells which transitions and nodes stand in H, and how often in the window part. Assumes nothing.
+use Prim.Native.Nat.{ℕ, suc, _+_, _*_, _^_, _<_, _≤_}
+use mathlib.Core.Path.{_≡_}
+use mathlib.Core.Logic.{_↔_}
+use mathlib.Core.List.{List, [], _∷_, _++_}
+use mathlib.Core.Option.{some}
+use lib.ListN.{length}
+use Rattle.priors.specs.Rows.{Row, look}
+use Rattle.book.specs.Keys.{endKey, childKey}
+use Rattle.book.specs.Entries.{rows}
+use Rattle.book.specs.Path.{Steps, pathOf}
+use Rattle.book.specs.Calls.{zeros, unlessRefused, fresh, openNumber, openBook, openQueue, addNumber}
+use Rattle.book.specs.Recount.{occurrences, windowPart}
+use Rattle.book.specs.Figures.{All, total, transitions, endings, Listed, Somewhere}
+use Rattle.book.specs.Claims.{BookCall, opening, add, BookAnswer, Machine, runs, bookStep, InBytes}
+
+-- ---- what was accepted, told from calls and answers
+
+-- the paths accepted since the last accepted opening; those in H were accepted before these calls
+unfoldable pub acceptedSince : List Steps → List BookCall → List BookAnswer → List Steps
+acceptedSince H [] answers = H
+acceptedSince H (call ∷ calls) [] = H
+acceptedSince H (opening window book queue ∷ calls) (answer ∷ answers) = acceptedSince (unlessRefused (answer .number) [] H) calls answers
+acceptedSince H (add path ∷ calls) (answer ∷ answers) = acceptedSince (unlessRefused (answer .number) (H ++ pathOf path ∷ []) H) calls answers
+
+-- the window of the last accepted opening
+unfoldable pub windowSince : ℕ → List BookCall → List BookAnswer → ℕ
+windowSince W [] answers = W
+windowSince W (call ∷ calls) [] = W
+windowSince W (opening window book queue ∷ calls) (answer ∷ answers) = windowSince (unlessRefused (answer .number) window W) calls answers
+windowSince W (add path ∷ calls) (answer ∷ answers) = windowSince W calls answers
+
+-- no add is answered 9
+abbrev pub NeverNine : List BookCall → List BookAnswer → Type 0
+NeverNine [] answers = Unit {0}
+NeverNine (call ∷ calls) [] = Unit {0}
+NeverNine (opening window book queue ∷ calls) (answer ∷ answers) = NeverNine calls answers
+NeverNine (add path ∷ calls) (answer ∷ answers) = (answer .number ≡ 9 → ⊥) × NeverNine calls answers
+
+-- ---- what the book then tells
+
+-- the used entries
+abbrev pub entriesOf : Machine → List Row
+entriesOf m = rows (m .book) (m .state .used)
+
+pub record Told (m : Machine) (W : ℕ) (H : List Steps) : Type 0 where
+  -- a transition is listed exactly when a path of H held it
+  pub transition-listed : (node child : ℕ) → child < 2 ^ 64 → Listed (childKey node child) (entriesOf m) ↔ Somewhere (transitions node child) H
+  -- its count is its occurrences in the window part
+  pub transition-count : (node child : ℕ) → child < 2 ^ 64 → (c : ℕ) → look (childKey node child) (entriesOf m) ≡ some c → c ≡ total (transitions node child) (windowPart W H)
+  -- a node is listed, with its ending, exactly when a path of H held it
+  pub node-listed : (node : ℕ) → Listed (endKey node) (entriesOf m) ↔ Somewhere (occurrences node) H
+  -- the ending's count is how many paths of the window part end there
+  pub ending-count : (node c : ℕ) → look (endKey node) (entriesOf m) ≡ some c → c ≡ total (endings node) (windowPart W H)
+  -- of the paths of H, p in number and of s steps in all, at most 2s - p entries are used
+  pub used-le : m .state .used + length H ≤ 2 * total length H
+
+-- whatever there was before: after an accepted opening and any calls
+abbrev pub Corollary : Type 0
+Corollary =
+    (m : Machine) (window : ℕ) (book queue : List ℕ) → openNumber window book queue ≡ 0
+    → (calls : List BookCall) → All InBytes calls
+    → let all = opening window book queue ∷ calls in
+    let ran = runs bookStep m all in
+    Told (ran .1) (windowSince 0 all (ran .0)) (acceptedSince [] all (ran .0)) × NeverNine all (ran .0)
+
+-- ---- single calls, whatever there was before
+
+-- an accepted opening leaves no byte of before
+abbrev pub OpeningStartsAfresh : Type 0
+OpeningStartsAfresh =
+    (m : Machine) (window : ℕ) (book queue : List ℕ) → openNumber window book queue ≡ 0
+    → bookStep m (opening window book queue) .1 ≡ record { state = fresh window; book = zeros (length book); queue = zeros (length queue) }
+
+-- a refused one leaves all as it was, and so what it was lent
+abbrev pub RefusedOpeningLeavesAll : Type 0
+RefusedOpeningLeavesAll =
+    (m : Machine) (window : ℕ) (book queue : List ℕ) (n : ℕ) → openNumber window book queue ≡ suc n
+    → (bookStep m (opening window book queue) .1 ≡ m) × (openBook window book queue ≡ book) × (openQueue window book queue ≡ queue)
+
+abbrev pub RefusedAddLeavesAll : Type 0
+RefusedAddLeavesAll =
+    (m : Machine) (path : List ℕ) (n : ℕ) → addNumber (m .state) (m .book) (m .queue) path ≡ suc n
+    → bookStep m (add path) .1 ≡ m

@@ -1,0 +1,170 @@
+// The form that each call on a tracker tests, but an opening: sizes of what is lent, the state within limits, used entries in order,
+// and the lengths of filled places. No other byte is read.
+ghost use mathlib.Core.Path.{_≡_};
+ghost use mathlib.Core.Bool.{true};
+ghost use Prim.Native.Nat.{_+_, _-_, _*_, _≤_, _<_, min};
+ghost use lib.ListN.{length};
+ghost use Rattle.book.specs.Entries.{fieldsAt, keyAt, rowAt, rows};
+ghost use Rattle.book.specs.Form.{bookFits, queueFits, plain, follows, formed, lengthsFit, stateFits, inForm, filled};
+use crate::entries::below;
+use crate::keys::Key;
+use crate::trackers::Tracker;
+use priors::addresses::rank_at;
+use priors::words::read_u32;
+
+// A lent book has 1 to 16,384 whole entries.
+pub fn book_fits(book: &[u8]) -> bool
+    ensures { λ r. ⌜ r ≡ bookFits (now (book .entry)) ⌝ }
+{
+    let n = book.len();
+    if n % 24 != 0 {
+        return false;
+    }
+    if n / 24 < 1 {
+        return false;
+    }
+    n / 24 <= 16384
+}
+
+// A lent queue has a place for each path of the window.
+pub fn queue_fits(window: u32, queue: &[u8]) -> bool
+    ensures { λ r. ⌜ r ≡ queueFits window (now (queue .entry)) ⌝ }
+{
+    516 * (window as usize) <= queue.len()
+}
+
+// The state is within its limits.
+fn state_fits(t: Tracker, book: &[u8]) -> bool
+    ensures { λ r. ⌜ r ≡ stateFits t (now (book .entry)) ⌝ }
+{
+    if 1024 < t.window {
+        return false;
+    }
+    if book.len() / 24 < t.used as usize {
+        return false;
+    }
+    t.accepted <= 16777216
+}
+
+// The entry from `at`, by itself: an ending or a child, a count up to 2^30, and zeros for an ending's child address.
+fn plain_at(s: &[u8], at: usize) -> bool
+    requires { ⌜ at + 24 ≤ length (now s) ⌝ }
+    ensures { λ r. ⌜ r ≡ plain (rowAt (now (s .entry)) at) ⌝ }
+{
+    let kind = read_u32(s, at + 8);
+    if 1 < kind {
+        return false;
+    }
+    let count = read_u32(s, at + 20);
+    if 1073741824 < count {
+        return false;
+    }
+    if kind == 1 {
+        return true;
+    }
+    let child = rank_at(s, at + 12);
+    child == 9223372036854775808
+}
+
+// The key of the entry from `at`.
+fn key_of(s: &[u8], at: usize) -> Key
+    requires { ⌜ at + 24 ≤ length (now s) ⌝ }
+    ensures { λ r. ⌜ r ≡ fieldsAt (now (s .entry)) at ⌝ }
+{
+    Key {
+        node: rank_at(s, at),
+        kind: read_u32(s, at + 8),
+        child: rank_at(s, at + 12),
+    }
+}
+
+// The entry at the place i can stand after the one before it.
+fn follows_at(book: &[u8], i: usize) -> bool
+    requires { ⌜ 1 ≤ i ⌝ }
+    requires { ⌜ 24 * i + 24 ≤ length (now book) ⌝ }
+    ensures { λ r. ⌜ r ≡ follows (keyAt (now (book .entry)) (24 * (i - 1))) (rowAt (now (book .entry)) (24 * i)) ⌝ }
+{
+    let key = key_of(book, 24 * i);
+    if !below(book, i - 1, key) {
+        return false;
+    }
+    let node = rank_at(book, 24 * (i - 1));
+    if node == key.node {
+        return true;
+    }
+    key.kind == 0
+}
+
+// The used entries have the form.
+pub fn entries_formed(book: &[u8], used: usize) -> bool
+    requires { ⌜ 24 * used ≤ length (now book) ⌝ }
+    ensures { λ r. ⌜ r ≡ formed (rows (now (book .entry)) used) ⌝ }
+{
+    if used == 0 {
+        return true;
+    }
+    if !plain_at(book, 0) {
+        return false;
+    }
+    let first = read_u32(book, 8);
+    if first != 0 {
+        return false;
+    }
+    let mut i = 1;
+    while i < used {
+        if !plain_at(book, 24 * i) {
+            return false;
+        }
+        if !follows_at(book, i) {
+            return false;
+        }
+        i += 1;
+    }
+    true
+}
+
+// The first n places hold lengths of 1 to 64.
+pub fn lengths_fit(queue: &[u8], n: usize) -> bool
+    requires { ⌜ 516 * n ≤ length (now queue) ⌝ }
+    ensures { λ r. ⌜ r ≡ lengthsFit (now (queue .entry)) n ⌝ }
+{
+    let mut i = n;
+    while 0 < i {
+        i -= 1;
+        let steps = read_u32(queue, 516 * i);
+        if steps < 1 {
+            return false;
+        }
+        if 64 < steps {
+            return false;
+        }
+    }
+    true
+}
+
+// The lesser of two numbers.
+fn lesser(a: u32, b: u32) -> u32
+    ensures { λ r. ⌜ r ≡ min a b ⌝ }
+{
+    if a < b { a } else { b }
+}
+
+// State, book and queue have the form.
+pub fn in_form(t: Tracker, book: &[u8], queue: &[u8]) -> bool
+    ensures { λ r. ⌜ r ≡ inForm t (now (book .entry)) (now (queue .entry)) ⌝ }
+{
+    if !book_fits(book) {
+        return false;
+    }
+    if !state_fits(t, book) {
+        return false;
+    }
+    if !queue_fits(t.window, queue) {
+        return false;
+    }
+    if !entries_formed(book, t.used as usize) {
+        return false;
+    }
+    let filled = lesser(t.window, t.accepted);
+    lengths_fit(queue, filled as usize)
+}

@@ -1,0 +1,84 @@
+// A path's steps, added to a book in one pass and taken away again. A path is lent as bytes, 8 a step.
+ghost use mathlib.Core.Path.{_≡_};
+ghost use mathlib.Core.Bool.{true};
+ghost use Prim.Native.Nat.{_+_, _*_, _/_, _^_, _≤_, _<_};
+ghost use lib.ListN.{length};
+ghost use Rattle.priors.specs.Rows.{keys, Ascends, touch, bump};
+ghost use Rattle.book.specs.Limits.{maxCount};
+ghost use Rattle.book.specs.Keys.{endKey, childKey};
+ghost use Rattle.book.specs.Entries.{rows, Rewritten};
+ghost use Rattle.book.specs.Path.{pathOf, wholePath, listedKeys, countedKeys};
+ghost use Rattle.book.specs.Changes.{CountsUpTo, touchAll, bumpAll, fadeAll};
+use crate::changes::fade_key;
+use crate::changes::note;
+use crate::changes::touch;
+use crate::keys::child;
+use crate::keys::ending;
+use priors::addresses::rank_at;
+
+// A path has 1 to 64 whole steps.
+pub fn whole_path(path: &[u8]) -> bool
+    ensures { λ r. ⌜ r ≡ wholePath (now (path .entry)) ⌝ }
+{
+    let n = path.len();
+    if n % 8 != 0 {
+        return false;
+    }
+    if n / 8 < 1 {
+        return false;
+    }
+    n / 8 <= 64
+}
+
+// A node is listed and the step from it to the next counts one more. The result is the number of entries.
+fn add_pair(book: &mut [u8], used: usize, node: u64, next: u64) -> usize
+    requires { ⌜ 24 * used ≤ length (now book) ⌝ }
+    requires { ⌜ Ascends 0 (keys (rows (now book) used)) ⌝ }
+    requires { ⌜ CountsUpTo (2 ^ 31) (rows (now book) used) ⌝ }
+    requires { ⌜ 24 * length (bump (childKey node next) (touch (endKey node) (rows (now book) used))) ≤ length (now book) ⌝ }
+    ensures { λ r. ⌜ Rewritten (now (book .entry)) (now (book .exit)) r (bump (childKey node next) (touch (endKey node) (rows (now (book .entry)) used))) ⌝ }
+{
+    let listed = touch(book, used, ending(node));
+    note(book, listed, child(node, next))
+}
+
+// Lists and counts what a path lists and counts, in one pass over it. The result is the number of entries.
+pub fn add_steps(book: &mut [u8], used: usize, path: &[u8]) -> usize
+    requires { ⌜ wholePath (now path) ≡ true ⌝ }
+    requires { ⌜ 24 * used ≤ length (now book) ⌝ }
+    requires { ⌜ Ascends 0 (keys (rows (now book) used)) ⌝ }
+    requires { ⌜ CountsUpTo maxCount (rows (now book) used) ⌝ }
+    requires { ⌜ 24 * length (touchAll (listedKeys (pathOf (now path))) (rows (now book) used)) ≤ length (now book) ⌝ }
+    ensures { λ r. ⌜ Rewritten (now (book .entry)) (now (book .exit)) r (bumpAll (countedKeys (pathOf (now (path .entry)))) (touchAll (listedKeys (pathOf (now (path .entry)))) (rows (now (book .entry)) used))) ⌝ }
+{
+    let last = path.len() / 8 - 1;
+    let mut listed = used;
+    let mut i = 0;
+    while i < last {
+        let node = rank_at(path, 8 * i);
+        let next = rank_at(path, 8 * (i + 1));
+        listed = add_pair(book, listed, node, next);
+        i += 1;
+    }
+    let end = rank_at(path, 8 * last);
+    note(book, listed, ending(end))
+}
+
+// Takes away what a path counted.
+pub fn take_away(book: &mut [u8], used: usize, path: &[u8])
+    requires { ⌜ 8 ≤ length (now path) ⌝ }
+    requires { ⌜ 24 * used ≤ length (now book) ⌝ }
+    requires { ⌜ Ascends 0 (keys (rows (now book) used)) ⌝ }
+    ensures { λ _. ⌜ Rewritten (now (book .entry)) (now (book .exit)) used (fadeAll (countedKeys (pathOf (now (path .entry)))) (rows (now (book .entry)) used)) ⌝ }
+{
+    let last = path.len() / 8 - 1;
+    let mut i = 0;
+    while i < last {
+        let node = rank_at(path, 8 * i);
+        let next = rank_at(path, 8 * (i + 1));
+        fade_key(book, used, child(node, next));
+        i += 1;
+    }
+    let end = rank_at(path, 8 * last);
+    fade_key(book, used, ending(end));
+}

@@ -1,0 +1,154 @@
+// The state that stands beside the lent book and queue: it goes into a call by value and comes back in the answer.
+ghost use mathlib.Core.Path.{_≡_};
+ghost use Prim.Native.Nat.{_*_, _≤_};
+ghost use lib.ListN.{length};
+ghost use Rattle.priors.specs.Rows.{keys, Ascends};
+ghost use Rattle.book.specs.Entries.{rows, Rewritten};
+ghost use Rattle.book.specs.Changes.{fadeAll, leftKeys};
+ghost use Rattle.book.specs.Figures.{inWindow};
+ghost use Rattle.book.specs.Calls.{openedNumber, openedState, addedNumber, addedState, openNumber, openState, openBook, openQueue, addNumber, addState, addBook, addQueue, nextPlace, leaving, queueWith, stateAfter, bookAfter, Ready, Leaves};
+use crate::form::book_fits;
+use crate::form::in_form;
+use crate::form::queue_fits;
+use crate::paths::add_steps;
+use crate::paths::take_away;
+use crate::paths::whole_path;
+use crate::queue::clear;
+use crate::queue::oldest;
+use crate::queue::put_path;
+use crate::room::has_room;
+use priors::refusals::Refusal;
+
+pub struct Tracker {
+    pub window: u32,
+    pub used: u32,
+    pub accepted: u32,
+}
+
+// What an opening answers: the fresh state, or why there is none.
+pub enum Opened {
+    Fresh(Tracker),
+    Refused(Refusal),
+}
+
+// What an add answers: the state with the path in it, or the state as it was and why.
+pub enum Added {
+    Taken(Tracker),
+    Refused(Refusal, Tracker),
+}
+
+impl Tracker {
+    // Opens a tracker: book and queue are zeroed to their ends. 8 for a window over 1,024, 9 for what is lent.
+    pub fn open(window: u32, book: &mut [u8], queue: &mut [u8]) -> Opened
+        ensures { λ r. ⌜ openedNumber r ≡ openNumber window (now (book .entry)) (now (queue .entry)) ⌝ }
+        ensures { λ r. ⌜ openedState r ≡ openState window (now (book .entry)) (now (queue .entry)) ⌝ }
+        ensures { λ r. ⌜ now (book .exit) ≡ openBook window (now (book .entry)) (now (queue .entry)) ⌝ }
+        ensures { λ r. ⌜ now (queue .exit) ≡ openQueue window (now (book .entry)) (now (queue .entry)) ⌝ }
+    {
+        if 1024 < window {
+            return Opened::Refused(Refusal::Window);
+        }
+        if !book_fits(book) {
+            return Opened::Refused(Refusal::Form);
+        }
+        if !queue_fits(window, queue) {
+            return Opened::Refused(Refusal::Form);
+        }
+        clear(book);
+        clear(queue);
+        Opened::Fresh(Tracker {
+            window,
+            used: 0,
+            accepted: 0,
+        })
+    }
+
+    // Adds a path and takes the oldest past the window away: 9 for the form, 10 for the path, 11 and 12 where it is one too many.
+    pub fn add_path(mut self, book: &mut [u8], queue: &mut [u8], path: &[u8]) -> Added
+        ensures { λ r. ⌜ addedNumber r ≡ addNumber self (now (book .entry)) (now (queue .entry)) (now (path .entry)) ⌝ }
+        ensures { λ r. ⌜ addedState r ≡ addState self (now (book .entry)) (now (queue .entry)) (now (path .entry)) ⌝ }
+        ensures { λ r. ⌜ now (book .exit) ≡ addBook self (now (book .entry)) (now (queue .entry)) (now (path .entry)) ⌝ }
+        ensures { λ r. ⌜ now (queue .exit) ≡ addQueue self (now (book .entry)) (now (queue .entry)) (now (path .entry)) ⌝ }
+    {
+        if !in_form(self, book, queue) {
+            return Added::Refused(Refusal::Form, self);
+        }
+        if !whole_path(path) {
+            return Added::Refused(Refusal::PathLength, self);
+        }
+        if 16777216 <= self.accepted {
+            return Added::Refused(Refusal::PathsFull, self);
+        }
+        if !has_room(book, self.used as usize, path) {
+            return Added::Refused(Refusal::BookFull, self);
+        }
+        Added::Taken(self.add_within(book, queue, path))
+    }
+
+    // Adds a path that no test turns back.
+    pub fn add_within(mut self, book: &mut [u8], queue: &mut [u8], path: &[u8]) -> Tracker
+        requires { ⌜ Ready self (now book) (now queue) (now path) ⌝ }
+        ensures { λ r. ⌜ r ≡ stateAfter self (now (book .entry)) (now (queue .entry)) (now (path .entry)) ⌝ }
+        ensures { λ r. ⌜ now (book .exit) ≡ bookAfter self (now (book .entry)) (now (queue .entry)) (now (path .entry)) ⌝ }
+        ensures { λ r. ⌜ now (queue .exit) ≡ queueWith self (now (queue .entry)) (now (path .entry)) ⌝ }
+    {
+        let used = add_steps(book, self.used as usize, path);
+        self.let_go(book, used, queue);
+        self.keep(queue, path);
+        let accepted = self.accepted + 1;
+        self.used = used as u32;
+        self.accepted = accepted;
+        self
+    }
+
+    // Where the next path is written, and where the oldest lies once the window is full.
+    fn next_place(self) -> usize
+        requires { ⌜ 1 ≤ self .window ⌝ }
+        ensures { λ r. ⌜ r ≡ nextPlace self ⌝ }
+    {
+        516 * ((self.accepted % self.window) as usize)
+    }
+
+    // Takes the oldest path past the window away, if the window is full.
+    fn let_go(self, book: &mut [u8], used: usize, queue: &[u8])
+        requires { ⌜ 24 * used ≤ length (now book) ⌝ }
+        requires { ⌜ Ascends 0 (keys (rows (now book) used)) ⌝ }
+        requires { ⌜ Leaves self (now queue) ⌝ }
+        ensures { λ _. ⌜ Rewritten (now (book .entry)) (now (book .exit)) used (fadeAll (leftKeys (leaving self (now (queue .entry)))) (rows (now (book .entry)) used)) ⌝ }
+    {
+        if self.window == 0 {
+            return;
+        }
+        if self.accepted < self.window {
+            return;
+        }
+        let at = self.next_place();
+        take_away(book, used, oldest(queue, at));
+    }
+
+    // Writes the path into its place, if there is a window.
+    fn keep(self, queue: &mut [u8], path: &[u8])
+        requires { ⌜ 516 * (self .window) ≤ length (now queue) ⌝ }
+        requires { ⌜ length (now path) ≤ 512 ⌝ }
+        ensures { λ _. ⌜ now (queue .exit) ≡ queueWith self (now (queue .entry)) (now (path .entry)) ⌝ }
+    {
+        if self.window == 0 {
+            return;
+        }
+        let at = self.next_place();
+        put_path(queue, at, path);
+    }
+
+    // The number of paths in the window part.
+    pub fn sequence_len(self) -> u32
+        ensures { λ r. ⌜ r ≡ inWindow (self .window) (self .accepted) ⌝ }
+    {
+        if self.window == 0 {
+            return self.accepted;
+        }
+        if self.accepted < self.window {
+            return self.accepted;
+        }
+        self.window
+    }
+}
