@@ -1,0 +1,92 @@
+-- Ascending lists: two with the same members are equal; and the keys of nodes and their children, node by node, ascend as the nodes and the children do.
+-- Assumes nothing.
+use mathlib.Core.Path.{_≡_, refl, ap}
+use mathlib.Core.Logic.{⊎-elim}
+use Prim.Native.Nat.{ℕ, suc, _^_, _≤_, _<_, zero-le}
+use native.Mathlib.Omega.{arith}
+use mathlib.Core.List.{List, [], _∷_, _++_, map, flatMap}
+use Rattle.priors.specs.Rows.{Ascends}
+use Rattle.priors.specs.Address.{lift, rank}
+use Rattle.priors.proofs.Orders.{Side, below, same, above, side}
+use Rattle.book.specs.Keys.{keyOf, endKey, childKey}
+use Rattle.book.specs.Recount.{enterAll}
+use Rattle.book.proofs.ManyRows.{ascends-all, keys-touches}
+use Rattle.book.proofs.Membership.{In, in-tail, in-head, in-cons, in-append, in-left, in-right, in-none, in-above, in-enterAll}
+
+-- ---- members
+
+pub in-map : (f : ℕ → ℕ) (k : ℕ) (xs : List ℕ) → In k (map f xs) → (x : ℕ) × In x xs × (k ≡ f x)
+in-map f k [] h = in-none k h
+in-map f k (x ∷ xs) h = ⊎-elim (λ q. (x, in-head x x xs refl, q)) (λ i. let m = in-map f k xs i in (m .0, in-tail (m .0) x xs (m .1), m .2)) (in-cons k (f x) (map f xs) h)
+
+pub map-in : (f : ℕ → ℕ) (x : ℕ) (xs : List ℕ) → In x xs → In (f x) (map f xs)
+map-in f x [] h = in-none x h
+map-in f x (y ∷ xs) h = ⊎-elim (λ q. in-head (f x) (f y) (map f xs) (ap f q)) (λ i. in-tail (f x) (f y) (map f xs) (map-in f x xs i)) (in-cons x y xs h)
+
+pub in-each : (f : ℕ → List ℕ) (k : ℕ) (xs : List ℕ) → In k (flatMap f xs) → (x : ℕ) × In x xs × In k (f x)
+unfolding flatMap
+in-each f k [] h = in-none k h
+in-each f k (x ∷ xs) h = ⊎-elim (λ i. (x, in-head x x xs refl, i)) (λ i. let m = in-each f k xs i in (m .0, in-tail (m .0) x xs (m .1), m .2)) (in-append k (f x) (flatMap f xs) h)
+
+pub each-in : (f : ℕ → List ℕ) (k x : ℕ) (xs : List ℕ) → In x xs → In k (f x) → In k (flatMap f xs)
+unfolding flatMap
+each-in f k x [] h i = in-none x h
+each-in f k x (y ∷ xs) h i =
+    ⊎-elim (λ q. in-left k (f y) (flatMap f xs) (rw q at i)) (λ m. in-right k (f y) (flatMap f xs) (each-in f k x xs m i)) (in-cons x y xs h)
+
+-- each once, ascending: what is entered into an empty list
+pub in-entered : (k : ℕ) (ks : List ℕ) → In k (enterAll ks []) → In k ks
+in-entered k ks h = ⊎-elim (λ i. i) (λ i. in-none k i) (in-enterAll k ks [] h)
+
+pub ascends-entered : (ks : List ℕ) → Ascends 0 (enterAll ks [])
+ascends-entered ks = rw (← keys-touches ks []) (ascends-all _ _ ks [] tt)
+
+-- ---- two ascending lists with the same members are equal
+
+pub same-members : (a : ℕ) (xs ys : List ℕ) → Ascends a xs → Ascends a ys → ((k : ℕ) → In k xs → In k ys) → ((k : ℕ) → In k ys → In k xs) → xs ≡ ys
+same-members a [] [] p q f g = refl
+same-members a [] (y ∷ ys) p q f g = in-none y (g y (in-head y y ys refl))
+same-members a (x ∷ xs) [] p q f g = in-none x (f x (in-head x x xs refl))
+same-members a (x ∷ xs) (y ∷ ys) p q f g = go (side x y) (same-members (suc x) xs ys (p .1))
+  where
+    go : Side x y → (Ascends (suc x) ys → ((k : ℕ) → In k xs → In k ys) → ((k : ℕ) → In k ys → In k xs) → xs ≡ ys) → x ∷ xs ≡ y ∷ ys
+    go (below l e) ih = absurd (omega (arith, in-above y x (y ∷ ys) (omega arith, q .1) (f x (in-head x x xs refl))))
+    go (above l e) ih = absurd (omega (arith, in-above x y (x ∷ xs) (omega arith, p .1) (g y (in-head y y ys refl))))
+    go (same d e) ih = let rest : xs ≡ ys = ih (rw d (q .1)) there back in cc
+      where
+        there : (k : ℕ) → In k xs → In k ys
+        there k i = ⊎-elim (λ c. absurd (omega (arith, in-above (suc x) k xs (p .1) i))) (λ m. m) (in-cons k y ys (f k (in-tail k x xs i)))
+
+        back : (k : ℕ) → In k ys → In k xs
+        back k i = ⊎-elim (λ c. absurd (omega (arith, in-above (suc y) k ys (q .1) i))) (λ m. m) (in-cons k x xs (g k (in-tail k y ys i)))
+
+-- ---- the keys of nodes, node by node
+
+ascends-from : (a b : ℕ) (xs : List ℕ) → a ≤ b → Ascends b xs → Ascends a xs
+ascends-from a b [] l h = tt
+ascends-from a b (x ∷ xs) l h = (omega arith, h .1)
+
+-- a node's ending, then its children
+abbrev pub nodeKeys : (ℕ → List ℕ) → ℕ → List ℕ
+nodeKeys children a = endKey a ∷ map (childKey a) (children a)
+
+ascends-children : (a lo b : ℕ) (cs rest : List ℕ) → lo ≤ childKey a b → lo ≤ endKey (suc a) → Ascends b cs → ((c : ℕ) → In c cs → c < 2 ^ 64) → Ascends (endKey (suc a)) rest
+    → Ascends lo (map (childKey a) cs ++ rest)
+unfolding endKey childKey keyOf rank lift
+ascends-children a lo b [] rest l m h r t = ascends-from lo (endKey (suc a)) rest m t
+ascends-children a lo b (c ∷ cs) rest l m h r t = (
+  omega arith,
+  ascends-children a (suc (childKey a c)) (suc c) cs rest (omega arith) (omega (arith, r c (in-head c c cs refl))) (h .1) (λ d i. r d (in-tail d c cs i)) t,
+)
+
+module _ (children : ℕ → List ℕ) (up : (a : ℕ) → Ascends 0 (children a)) (ranked : (a c : ℕ) → In c (children a) → c < 2 ^ 64) where
+  nodes-from : (lo : ℕ) (ns : List ℕ) → Ascends lo ns → Ascends (endKey lo) (flatMap (nodeKeys children) ns)
+  unfolding flatMap endKey childKey keyOf rank lift
+  nodes-from lo [] h = tt
+  nodes-from lo (a ∷ ns) h = (
+    omega arith,
+    ascends-children a (suc (endKey a)) 0 (children a) (flatMap (nodeKeys children) ns) (omega arith) (omega arith) (up a) (ranked a) (nodes-from (suc a) ns (h .1)),
+  )
+
+  pub ascends-nodes : (ns : List ℕ) → Ascends 0 ns → Ascends 0 (flatMap (nodeKeys children) ns)
+  ascends-nodes ns h = ascends-from 0 (endKey 0) (flatMap (nodeKeys children) ns) zero-le (nodes-from 0 ns h)

@@ -1,0 +1,172 @@
+-- Which numbers a reading is refused with: where the form is whole, never 9. Assumes nothing.
+use mathlib.Core.Path.{_≡_, refl}
+use Prim.Native.Nat.{ℕ, zero, suc}
+use native.Mathlib.Omega.{arith}
+use mathlib.Core.List.{List, [], _∷_}
+use mathlib.Core.Bool.{Bool, true, false, cond, _&&_}
+use mathlib.Core.Option.{Option, none, some}
+use lib.Dec.{ltb}
+use lib.ListN.{length}
+use lib.Ieee.{Float}
+use borrow.Author.Tests.{ltb-true}
+use Rattle.priors.proofs.Tests.{both}
+use Rattle.priors.specs.Address.{rankOf}
+use Rattle.priors.specs.Rules.{Rule, rule, firstBroken}
+use Rattle.priors.specs.Tables.{lengthsFit, entriesFit, tablesRefusal}
+use Rattle.priors.specs.Priors.{Counts, priorOf, records, ascends, wholeRecords, firstLinkFits, nextLinkFits, chainFits, chainAscends, countFits, totalFits, everyNode, everyChild, priorsRefusal}
+use Rattle.priors.specs.Limits.{maxNodes, maxChildren}
+use Rattle.divergence.specs.declared.divergences.NodeDivergence.{NodeDivergence}
+use Rattle.divergence.specs.declared.divergences.NodeDivergence.the-variants.{Value, NoPrior, MissingChild, PastTable}
+use Rattle.divergence.specs.Nodes.{Node, evidenceOf}
+use Rattle.divergence.specs.Probability as Vectors
+use Rattle.divergence.specs.Divergence.{nodeDivergence}
+use Rattle.divergence.specs.Statistics.{Walk, stopped, walked, visited, walk}
+use Rattle.divergence.specs.Readings.{Reading, refused, nothing, answered, unless, room, fitting, vectorReading, probReading, evidenceReading, divergenceReading, ofListed, klReading, Divergences, withPrior, walkReading, allReading, statsReadingOf, statsReading}
+use Rattle.divergence.specs.Answers.{vectorResult, allResult}
+use Rattle.divergence.specs.Claims.{ReadingCall, probVector, evidenceProbVector, posteriorKlDivergence, allNodeKl, klDivStats, readingAnswer}
+use Rattle.divergence.specs.Corollaries.{readingNumber, answerNumber}
+
+abbrev Not9 : ℕ → Type 0
+Not9 n = n ≡ 9 → ⊥
+
+-- ---- rules
+
+-- all of them have numbers below 9
+abbrev small : List Rule → Bool
+small [] = true
+small (r ∷ rules) = ltb (r .number) 9 && small rules
+
+broken-not : (rules : List Rule) → small rules ≡ true → Not9 (firstBroken rules)
+broken-not [] h = λ e. omega arith
+broken-not (r ∷ rules) h = let parts = both (ltb (r .number) 9) (small rules) h in go (r .holds) (parts .0) (broken-not rules (parts .1))
+  where
+    go : (b : Bool) → ltb (r .number) 9 ≡ true → Not9 (firstBroken rules) → Not9 (cond b (firstBroken rules) (r .number))
+    go true l ih = ih
+    go false l ih = λ e. omega (arith, ltb-true (r .number) 9 l)
+
+tables-not : (G D : List Float) → Not9 (tablesRefusal G D)
+unfolding tablesRefusal
+tables-not G D = broken-not (rule 1 (lengthsFit G D) ∷ rule 2 (entriesFit G) ∷ rule 2 (entriesFit D) ∷ []) refl
+
+priors-not : (nodes children : List ℕ) → Not9 (priorsRefusal nodes children)
+unfolding priorsRefusal
+priors-not nodes children =
+    broken-not
+    (rule 3 (wholeRecords nodes maxNodes)
+    ∷ rule 3 (wholeRecords children maxChildren)
+    ∷ rule 4 (ascends (records nodes))
+    ∷ rule 5 (everyNode nodes (firstLinkFits nodes children))
+    ∷ rule 5 (everyChild children (nextLinkFits children))
+    ∷ rule 5 (everyNode nodes (chainFits nodes children))
+    ∷ rule 6 (everyNode nodes (chainAscends nodes children))
+    ∷ rule 7 (everyChild children (countFits children))
+    ∷ rule 7 (everyNode nodes (totalFits nodes children))
+    ∷ [])
+    refl
+
+-- ---- the parts of a reading
+
+-- a reading that is not refused with 9
+record Other {X : Type 0} (r : Reading X) : Type 0 where
+  not-nine : Not9 (readingNumber r)
+
+unless-other : {X : Type 0} {n : ℕ} {r : Reading X} → Not9 n → Other r → Other (unless n r)
+unless-other {n = zero} h i = i
+unless-other {n = suc n} h i = record { not-nine = h }
+
+fitting-other : {X : Type 0} (places have : ℕ) {r : Reading X} → Other r → Other (fitting places have r)
+fitting-other places have {r} h = go (ltb have places)
+  where
+    go : (b : Bool) → Other (cond b (refused 13 none) r)
+    go true = record { not-nine = λ e. omega arith }
+    go false = h
+
+answered-other : {X : Type 0} (x : X) → Other (answered x)
+answered-other x = record { not-nine = λ e. omega arith }
+
+nothing-other : {X : Type 0} → Other {X = X} nothing
+nothing-other = record { not-nine = λ e. omega arith }
+
+vector-other : (have : ℕ) (o : Option Counts) → Other (vectorReading have o)
+vector-other have none = nothing-other
+vector-other have (some c) = fitting-other (length (c .children)) have (answered-other c)
+
+divergence-other : (rank : ℕ) (d : NodeDivergence) → Other (divergenceReading rank d)
+divergence-other rank (Value x) = answered-other x
+divergence-other rank NoPrior = nothing-other
+divergence-other rank MissingChild = record { not-nine = λ e. omega arith }
+divergence-other rank PastTable = record { not-nine = λ e. omega arith }
+
+listed-other : (G D : List Float) (nodes children : List ℕ) (rank : ℕ) (o : Option Counts) → Other (ofListed G D nodes children rank o)
+listed-other G D nodes children rank none = nothing-other
+listed-other G D nodes children rank (some c) = divergence-other rank (nodeDivergence G D (priorOf nodes children rank) c)
+
+-- a walk ends by 14 or 15
+abbrev walkNumber : Walk → ℕ
+walkNumber (stopped n node) = n
+walkNumber (walked places skipped) = 0
+
+visited-not : (node : ℕ) (d : NodeDivergence) (rest : Walk) → Not9 (walkNumber rest) → Not9 (walkNumber (visited node d rest))
+visited-not node (Value x) (stopped n m) h = h
+visited-not node (Value x) (walked ps k) h = h
+visited-not node NoPrior (stopped n m) h = h
+visited-not node NoPrior (walked ps k) h = h
+visited-not node MissingChild rest h = λ e. omega arith
+visited-not node PastTable rest h = λ e. omega arith
+
+walk-not : (G D : List Float) (nodes children : List ℕ) (ns : List Node) → Not9 (walkNumber (walk G D nodes children ns))
+unfolding walk
+walk-not G D nodes children [] = λ e. omega arith
+walk-not G D nodes children (n ∷ ns) =
+    visited-not (n .address) (nodeDivergence G D (priorOf nodes children (n .address)) (n .evidence)) (walk G D nodes children ns) (walk-not G D nodes children ns)
+
+walked-other : (w : Walk) → Not9 (walkNumber w) → Other (walkReading w)
+walked-other (stopped n node) h = record { not-nine = h }
+walked-other (walked ps k) h = record { not-nine = h }
+
+stats-other : (len : ℕ) (w : Walk) → Not9 (walkNumber w) → Other (statsReadingOf len w)
+stats-other len (stopped n node) h = record { not-nine = h }
+stats-other len (walked ps k) h = record { not-nine = h }
+
+-- ---- the readings, of a tracker in form
+
+-- what stands in the result has the same number
+vector-result : {r : Reading Counts} → Other r → Other (vectorResult r)
+vector-result {r = refused n node} h = record { not-nine = h .not-nine }
+vector-result {r = nothing} h = nothing-other
+vector-result {r = answered c} h = answered-other _
+
+all-result : {r : Reading Divergences} → Other r → Other (allResult r)
+all-result {r = refused n node} h = record { not-nine = h .not-nine }
+all-result {r = nothing} h = nothing-other
+all-result {r = answered a} h = answered-other _
+
+prob-other : (nodes children : List ℕ) (ns : List Node) (rank have : ℕ) → Other (probReading 0 nodes children ns rank have)
+unfolding probReading
+prob-other nodes children ns rank have = unless-other (priors-not nodes children) (vector-other have (Vectors.probVector (priorOf nodes children rank) (evidenceOf rank ns)))
+
+evidence-other : (ns : List Node) (rank have : ℕ) → Other (evidenceReading 0 ns rank have)
+unfolding evidenceReading
+evidence-other ns rank have = vector-other have (Vectors.evidenceProbVector (evidenceOf rank ns))
+
+kl-other : (G D : List Float) (nodes children : List ℕ) (ns : List Node) (rank : ℕ) → Other (klReading 0 G D nodes children ns rank)
+unfolding klReading
+kl-other G D nodes children ns rank = unless-other (tables-not G D) (unless-other (priors-not nodes children) (listed-other G D nodes children rank (evidenceOf rank ns)))
+
+all-other : (G D : List Float) (nodes children : List ℕ) (ns : List Node) (have : ℕ) → Other (allReading 0 G D nodes children ns have)
+unfolding allReading
+all-other G D nodes children ns have =
+    unless-other (tables-not G D) (unless-other (priors-not nodes children) (fitting-other (withPrior nodes children ns) have (walked-other (walk G D nodes children ns) (walk-not G D nodes children ns))))
+
+div-stats-other : (G D : List Float) (nodes children : List ℕ) (ns : List Node) (len : ℕ) → Other (statsReading 0 G D nodes children ns len)
+unfolding statsReading
+div-stats-other G D nodes children ns len =
+    unless-other (tables-not G D) (unless-other (priors-not nodes children) (stats-other len (walk G D nodes children ns) (walk-not G D nodes children ns)))
+
+pub reading-not-nine : (ns : List Node) (len : ℕ) (c : ReadingCall) → answerNumber (readingAnswer 0 ns len c) ≡ 9 → ⊥
+unfolding readingAnswer
+reading-not-nine ns len (probVector nodes children scale point addresses figures) = vector-result (prob-other nodes children ns (rankOf scale point) (room addresses figures)) .not-nine
+reading-not-nine ns len (evidenceProbVector scale point addresses figures) = vector-result (evidence-other ns (rankOf scale point) (room addresses figures)) .not-nine
+reading-not-nine ns len (posteriorKlDivergence nodes children G D scale point) = kl-other G D nodes children ns (rankOf scale point) .not-nine
+reading-not-nine ns len (allNodeKl nodes children G D addresses figures) = all-result (all-other G D nodes children ns (room addresses figures)) .not-nine
+reading-not-nine ns len (klDivStats nodes children G D) = div-stats-other G D nodes children ns len .not-nine

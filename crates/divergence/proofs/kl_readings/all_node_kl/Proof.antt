@@ -1,0 +1,98 @@
+-- `all_node_kl` meets its contract: a check's refusal is the reading's, and where all pass the divergences of the listed nodes fill the output.
+use mathlib.Core.Path.{_≡_, sym, ap, _∙_}
+use Prim.Native.Nat.{ℕ}
+use mathlib.Core.List.{List}
+use Rattle.priors.specs.Rows.{Row}
+use Rattle.priors.specs.Refusals.{checkedNumber}
+use Rattle.divergence.specs.Nodes.{listedNodes}
+use Rattle.divergence.specs.Readings.{Reading, Divergences, nodesOf, room, allReading, allAddresses, allFigures}
+use Rattle.divergence.specs.Answers.{allResult}
+use Rattle.divergence.specs.Fillings.{allListed}
+use Rattle.divergence.proofs.WalkLaws.{part-all}
+use Rattle.divergence.proofs.CheckLaws.{refused-by, passed-by, tables-pass, priors-pass, used-fits, used-le}
+use borrow.Author.Needs.{needs}
+use Rattle.divergence.proofs.kl_readings.all_node_kl.Statement.{statement}
+use Rattle.divergence.proofs.kl_readings.all_node_kl.Tie as tie
+
+tested-requires : tie.Need-tested-requires
+tested-requires c κs = search needs
+
+enum-known-r : tie.Need-enum-known-r
+enum-known-r c = search needs
+
+enum-told : tie.Need-enum-told
+enum-told c = search needs
+
+cast-all-listed : tie.Need-cast-all-listed
+cast-all-listed c = search needs
+
+all-listed-requires : tie.Need-all-listed-requires
+all-listed-requires c κs =
+    let start = c .before .before .before .before .before .before .before .before .before .before .before .before .before .before in
+    let g = start .args .g .now in
+    let d = start .args .d .now in
+    let nodes = start .args .nodes .now in
+    let children = start .args .children .now in
+    let book = start .args .book .now in
+    let addresses = start .args .addresses .now in
+    let figures = start .args .figures .now in
+    let t = start .args .t in
+    let queue = start .args .queue .now in
+    let passed = sym (c .before .before .before .before .before .tested .ensures) ∙ ap checkedNumber (c .before .before .before .enum-told .given .1) in (
+      used-le t book queue nodes children g d passed,
+      (used-fits t book queue nodes children g d passed, (priors-pass t book queue nodes children g d passed, tables-pass t book queue nodes children g d passed)),
+    )
+
+returns : tie.Need-returns
+unfolding allReading
+returns c =
+    let start = c .before .before .before .before .before .before .before .before .before .before .before .before in
+    let g = start .args .g .now in
+    let d = start .args .d .now in
+    let nodes = start .args .nodes .now in
+    let children = start .args .children .now in
+    let book = start .args .book .now in
+    let addresses = start .args .addresses .now in
+    let figures = start .args .figures .now in
+    let t = start .args .t in
+    let is = refused-by t book (start .args .queue .now) nodes children g d (c .before .r .given .0 .0) (allListed g d nodes children (nodesOf t book) (room addresses figures)) (sym (ap checkedNumber (c .before .r .given .1)) ∙ c .before .before .before .tested .ensures) in
+    (ap allResult is, (ap (λ (r : Reading Divergences). allAddresses r addresses) is, ap (λ (r : Reading Divergences). allFigures r figures) is))
+
+same-length : tie.Need-same-length
+same-length c = search needs
+
+same-length-2 : tie.Need-same-length-2
+same-length-2 c = search needs
+
+returns-2 : tie.Need-returns-2
+unfolding allReading
+returns-2 c =
+    let start = c .before .before .before .before .before .before .before .before .before .before .before .before .before .before .before .before .before .before .before in
+    let g = start .args .g .now in
+    let d = start .args .d .now in
+    let nodes = start .args .nodes .now in
+    let children = start .args .children .now in
+    let book = start .args .book .now in
+    let addresses = start .args .addresses .now in
+    let figures = start .args .figures .now in
+    let t = start .args .t in
+    let passed = sym (c .before .before .before .before .before .before .before .before .before .before .tested .ensures) ∙ ap checkedNumber (c .before .before .before .before .before .before .before .before .enum-told .given .1) in
+    let is = ap (λ (rs : List Row). allListed g d nodes children (listedNodes rs) (room addresses figures)) (part-all book (t .used)) ∙ passed-by t book (start .args .queue .now) nodes children g d passed (allListed g d nodes children (nodesOf t book) (room addresses figures)) in
+    let filled = c .before .before .before .before .all-listed .ensures in (
+      filled .0 ∙ ap allResult is,
+      (filled .1 .0 ∙ ap (λ (r : Reading Divergences). allAddresses r addresses) is, filled .1 .1 ∙ ap (λ (r : Reading Divergences). allFigures r figures) is),
+    )
+
+pub all-node-kl-spec : {M : Type 1} → statement M
+all-node-kl-spec =
+    tie.close
+    (tie.spec
+    tested-requires
+    enum-known-r
+    enum-told
+    cast-all-listed
+    all-listed-requires
+    returns
+    same-length
+    same-length-2
+    returns-2)

@@ -1,0 +1,157 @@
+-- What each reading answers, and what the lent outputs hold afterwards. The checks come in the order of their numbers: tables, priors, the tracker's form, then the
+-- reading itself on a list of nodes. `form` is 9 where the tracker's form is broken, else 0. Assumes nothing.
+use Prim.Native.Nat.{ℕ, zero, suc, _+_, _*_, _/_, min}
+use mathlib.Core.Bool.{cond}
+use mathlib.Core.List.{List, [], _∷_, _++_, map, flatMap}
+use mathlib.Core.Option.{Option, none, some}
+use lib.Dec.{ltb}
+use lib.ListN.{length, drop}
+use lib.Ieee.{Float}
+use Rattle.priors.specs.Address.{addressOf, addressBytes}
+use Rattle.priors.specs.declared.addresses.Address.{Address}
+use Rattle.priors.specs.Rows.{keys}
+use Rattle.priors.specs.Tables.{tablesRefusal}
+use Rattle.priors.specs.Priors.{Counts, total, priorOf, priorsRefusal}
+use Rattle.book.specs.declared.trackers.Tracker.{Tracker}
+use Rattle.book.specs.Entries.{rows}
+use Rattle.book.specs.Form.{inForm}
+use Rattle.book.specs.Figures.{inWindow}
+use Rattle.divergence.specs.declared.divergences.NodeDivergence.{NodeDivergence}
+use Rattle.divergence.specs.declared.divergences.NodeDivergence.the-variants.{Value, NoPrior, MissingChild, PastTable}
+use Rattle.divergence.specs.declared.statistics.KLDivergenceStats.{KLDivergenceStats}
+use Rattle.divergence.specs.Nodes.{Node, listedNodes, evidenceOf}
+use Rattle.divergence.specs.Probability.{figuresOf, probVector, evidenceProbVector}
+use Rattle.divergence.specs.Divergence.{nodeDivergence}
+use Rattle.divergence.specs.Statistics.{Place, Walk, stopped, walked, walk, noStats, statsOver}
+
+-- an answer: a refusal with its number and the node that 14 and 15 name, none, or the answer itself
+pub data Reading (X : Type 0) : Type 0 where
+  refused : ℕ → Option Address → Reading X
+  nothing : Reading X
+  answered : X → Reading X
+
+-- a check that refuses with a number, 0 for none
+abbrev pub unless : {X : Type 0} → ℕ → Reading X → Reading X
+unless zero r = r
+unless (suc n) r = refused (suc n) none
+
+-- the tracker's form: 9 where it is broken
+abbrev pub formRefusal : Tracker → List ℕ → List ℕ → ℕ
+formRefusal t book queue = cond (inForm t book queue) 0 9
+
+-- the nodes that a tracker lists
+abbrev pub nodesOf : Tracker → List ℕ → List Node
+nodesOf t book = listedNodes (rows book (t .used))
+
+-- the number of paths in the window part
+abbrev pub sequenceLen : Tracker → ℕ
+sequenceLen t = inWindow (t .window) (t .accepted)
+
+-- ---- outputs: a place is an address, 8 bytes in one slice, and a figure in the other
+
+-- the slice with fewer whole places decides
+abbrev pub room : List ℕ → List Float → ℕ
+room addresses figures = min (length addresses / 8) (length figures)
+
+-- an answer fills places from 0 up; places past it keep what they held
+unfoldable pub filledAddresses : List ℕ → List ℕ → List ℕ
+filledAddresses ranks addresses = flatMap addressBytes ranks ++ drop (8 * length ranks) addresses
+
+unfoldable pub filledFigures : List Float → List Float → List Float
+filledFigures values figures = values ++ drop (length values) figures
+
+-- 13: the output holds fewer places than the answer
+abbrev pub fitting : {X : Type 0} → ℕ → ℕ → Reading X → Reading X
+fitting places have r = cond (ltb have places) (refused 13 none) r
+
+-- ---- `prob_vector` and `evidence_prob_vector`: the counts whose figures fill the output
+
+abbrev pub vectorReading : ℕ → Option Counts → Reading Counts
+vectorReading have none = nothing
+vectorReading have (some c) = fitting (length (c .children)) have (answered c)
+
+-- on a list of nodes
+unfoldable pub probReading : ℕ → List ℕ → List ℕ → List Node → ℕ → ℕ → Reading Counts
+probReading form nodes children ns rank have =
+    unless (priorsRefusal nodes children) (unless form (vectorReading have (probVector (priorOf nodes children rank) (evidenceOf rank ns))))
+
+unfoldable pub evidenceReading : ℕ → List Node → ℕ → ℕ → Reading Counts
+evidenceReading form ns rank have = unless form (vectorReading have (evidenceProbVector (evidenceOf rank ns)))
+
+-- the children fill the output, ascending
+abbrev pub vectorAddresses : Reading Counts → List ℕ → List ℕ
+vectorAddresses (refused n node) addresses = addresses
+vectorAddresses nothing addresses = addresses
+vectorAddresses (answered c) addresses = filledAddresses (keys (c .children)) addresses
+
+abbrev pub vectorFigures : Reading Counts → List Float → List Float
+vectorFigures (refused n node) figures = figures
+vectorFigures nothing figures = figures
+vectorFigures (answered c) figures = filledFigures (figuresOf (total c) (c .children)) figures
+
+-- ---- `posterior_kl_divergence`
+
+abbrev pub divergenceReading : ℕ → NodeDivergence → Reading Float
+divergenceReading rank (Value x) = answered x
+divergenceReading rank NoPrior = nothing
+divergenceReading rank MissingChild = refused 14 (some (addressOf rank))
+divergenceReading rank PastTable = refused 15 (some (addressOf rank))
+
+abbrev pub ofListed : List Float → List Float → List ℕ → List ℕ → ℕ → Option Counts → Reading Float
+ofListed G D nodes children rank none = nothing
+ofListed G D nodes children rank (some e) = divergenceReading rank (nodeDivergence G D (priorOf nodes children rank) e)
+
+unfoldable pub klReading : ℕ → List Float → List Float → List ℕ → List ℕ → List Node → ℕ → Reading Float
+klReading form G D nodes children ns rank =
+    unless (tablesRefusal G D) (unless (priorsRefusal nodes children) (unless form (ofListed G D nodes children rank (evidenceOf rank ns))))
+
+-- ---- `all_node_kl`: places for the nodes that have a prior, and the number skipped
+
+pub record Divergences : Type 0 where
+  pub places : List Place
+  pub skipped : ℕ
+
+abbrev pub hasPrior : Option Counts → ℕ
+hasPrior none = 0
+hasPrior (some p) = 1
+
+-- how many listed nodes have a prior: the size of the answer, also where 14 or 15 would end it
+unfoldable pub withPrior : List ℕ → List ℕ → List Node → ℕ
+withPrior nodes children [] = 0
+withPrior nodes children (n ∷ ns) = hasPrior (priorOf nodes children (n .address)) + withPrior nodes children ns
+
+abbrev pub walkReading : Walk → Reading Divergences
+walkReading (stopped n node) = refused n (some (addressOf node))
+walkReading (walked ps k) = answered (record { places = ps; skipped = k })
+
+unfoldable pub allReading : ℕ → List Float → List Float → List ℕ → List ℕ → List Node → ℕ → Reading Divergences
+allReading form G D nodes children ns have =
+    unless (tablesRefusal G D)
+    (unless (priorsRefusal nodes children)
+    (unless form (fitting (withPrior nodes children ns) have (walkReading (walk G D nodes children ns)))))
+
+-- the nodes fill the output, ascending
+abbrev pub allAddresses : Reading Divergences → List ℕ → List ℕ
+allAddresses (refused n node) addresses = addresses
+allAddresses nothing addresses = addresses
+allAddresses (answered a) addresses = filledAddresses (map (λ (p : Place). p .address) (a .places)) addresses
+
+abbrev pub allFigures : Reading Divergences → List Float → List Float
+allFigures (refused n node) figures = figures
+allFigures nothing figures = figures
+allFigures (answered a) figures = filledFigures (map (λ (p : Place). p .value) (a .places)) figures
+
+-- ---- `kl_div_stats`
+
+pub record Statistics : Type 0 where
+  pub stats : KLDivergenceStats
+  pub skipped : ℕ
+
+abbrev pub statsReadingOf : ℕ → Walk → Reading Statistics
+statsReadingOf sequenceLength (stopped n node) = refused n (some (addressOf node))
+statsReadingOf sequenceLength (walked ps k) = answered (record { stats = statsOver (noStats sequenceLength) ps; skipped = k })
+
+unfoldable pub statsReading : ℕ → List Float → List Float → List ℕ → List ℕ → List Node → ℕ → Reading Statistics
+statsReading form G D nodes children ns sequenceLength =
+    unless (tablesRefusal G D)
+    (unless (priorsRefusal nodes children) (unless form (statsReadingOf sequenceLength (walk G D nodes children ns))))
