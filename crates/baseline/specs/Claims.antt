@@ -1,0 +1,41 @@
+-- Demand 3 for training. For each sequence there is a list of calls of the machine of the divergence's claim: an opening with window 0 on the lent book, an add for each
+-- path, and `kl_div_stats` after each sampled one. What the machine answers to them, told up to the first refusal, is what `train` takes for that sequence's records.
+-- Assumes nothing.
+use Prim.Native.Nat.{ℕ, zero, suc, _+_, _*_, _%_, _<_}
+use mathlib.Core.Path.{_≡_}
+use mathlib.Core.Bool.{cond}
+use mathlib.Core.List.{List, [], _∷_}
+use lib.Dec.{eqb}
+use lib.ListN.{length}
+use Rattle.book.specs.Figures.{All}
+use Rattle.book.specs.Claims.{opening, add, Machine, openRefusal, runs}
+use Rattle.divergence.specs.declared.statistics.KLDivergenceStats.{KLDivergenceStats}
+use Rattle.divergence.specs.Claims.{Call, change, read, klDivStats, Answer, changed, vector, kl, allKl, stats, step}
+use Rattle.baseline.specs.Training.{Lent, Input, Until, reached, andThen, unlessStopped, recorded, pathIn, sequenceRecords}
+
+-- m paths of a sequence, the first of which has the number i and lies in the place numbered first + i: each is added, and where i mod rate is 0 the statistics are read
+unfoldable pub callsFrom : Lent → ℕ → ℕ → ℕ → List Call
+callsFrom x first i zero = []
+callsFrom x first i (suc m) =
+    let rest = callsFrom x first (suc i) m in
+    change (add (pathIn (x .sequences) (first + i)))
+    ∷ cond (eqb (i % x .rate) 0) (read (klDivStats (x .nodes) (x .children) (x .G) (x .D)) ∷ rest) rest
+
+-- the sequence numbered q runs through a fresh window-0 tracker, which has no queue
+unfoldable pub sequenceCalls : Input → List ℕ → ℕ → List Call
+sequenceCalls x book q = change (opening 0 book []) ∷ callsFrom (x .lent) (q * x .n) 0 (x .n)
+
+-- the records among answers, unless a refusal comes first
+unfoldable pub recordsIn : List Answer → Until (List KLDivergenceStats)
+recordsIn [] = reached []
+recordsIn (changed a ∷ more) = unlessStopped (a .number) (recordsIn more)
+recordsIn (vector r addresses figures ∷ more) = recordsIn more
+recordsIn (kl r ∷ more) = recordsIn more
+recordsIn (allKl r addresses figures ∷ more) = recordsIn more
+recordsIn (stats r ∷ more) = andThen (recorded r) (recordsIn more)
+
+-- whatever tables, priors, sequences, rate and book there are, and whatever the machine was before
+abbrev pub Claim : Type 0
+Claim =
+    (x : Input) (book : List ℕ) (m : Machine) → openRefusal 0 (length book) 0 ≡ 0 → All (λ b. b < 256) (x .lent .sequences)
+    → (q : ℕ) → recordsIn (runs step m (sequenceCalls x book q) .0) ≡ sequenceRecords x (length book) q
