@@ -1,0 +1,46 @@
+// A refusal as it is recorded: its number, and the address of the node that 14 and 15 name, else zeros.
+use crate::tape::forward;
+use crate::tape::word;
+use priors::addresses::rank;
+use priors::addresses::rank_of;
+use priors::refusals::Refusal;
+use priors::refusals::number;
+
+// The rank of the node that a refusal names, or of the address of two zeros.
+fn named_rank(r: Refusal) -> u64 {
+    match r {
+        Refusal::MissingChild(node) => rank_of(node.scale, node.point),
+        Refusal::PastTable(node) => rank_of(node.scale, node.point),
+        Refusal::TableLengths => rank(0, 0),
+        Refusal::TableEntry => rank(0, 0),
+        Refusal::PriorSizes => rank(0, 0),
+        Refusal::NodeOrder => rank(0, 0),
+        Refusal::Links => rank(0, 0),
+        Refusal::ChainOrder => rank(0, 0),
+        Refusal::ZeroPrior => rank(0, 0),
+        Refusal::Window => rank(0, 0),
+        Refusal::Form => rank(0, 0),
+        Refusal::PathLength => rank(0, 0),
+        Refusal::PathsFull => rank(0, 0),
+        Refusal::BookFull => rank(0, 0),
+        Refusal::OutputShort => rank(0, 0),
+        Refusal::TrainingInput => rank(0, 0),
+        Refusal::BaselineInput => rank(0, 0),
+        Refusal::OneKnot => rank(0, 0),
+    }
+}
+
+// The rank of the address that stands at a place.
+pub fn rank_at(tape: &[u8], at: usize) -> u64 {
+    rank(word(tape, at), word(tape, forward(at, 1)))
+}
+
+// The refusal that stands at a place.
+pub fn same_refusal(tape: &[u8], at: usize, r: Refusal) -> bool {
+    word(tape, at) == number(r) && rank_at(tape, forward(at, 1)) == named_rank(r)
+}
+
+// No refusal stands at a place.
+pub fn no_refusal(tape: &[u8], at: usize) -> bool {
+    word(tape, at) == 0 && rank_at(tape, forward(at, 1)) == rank(0, 0)
+}
