@@ -1,0 +1,31 @@
+-- Each variant has its own number and state.
+use mathlib.Core.Path.{sym, ap, _∙_}
+use Rattle.book.specs.declared.trackers.Added.{Added}
+use Rattle.book.specs.Calls.{addedNumber}
+use Rattle.exports.specs.Outputs.{addedNumbers}
+use borrow.Author.Needs.{needs}
+use Rattle.exports.proofs.answers.tell_added.Statement.{statement}
+use Rattle.exports.proofs.answers.tell_added.Tie as tie
+
+enum-known-answer : tie.Need-enum-known-answer
+enum-known-answer c = search needs
+
+enum-known-answer-2 : tie.Need-enum-known-answer-2
+enum-known-answer-2 c = search needs
+
+number-requires : tie.Need-number-requires
+number-requires c κs = search needs
+
+returns : tie.Need-returns
+returns c =
+    let e = c .before .before .answer .given .1 in
+    (sym (ap addedNumber e), sym (ap (λ (a : Added). addedNumbers a (c .before .before .before .before .args .state .now)) e))
+
+returns-2 : tie.Need-returns-2
+returns-2 c =
+    let e = c .before .before .answer2 .given .1 in
+    (c .number .ensures ∙ sym (ap addedNumber e), sym (ap (λ (a : Added). addedNumbers a (c .before .before .before .before .args .state .now)) e))
+
+pub tell-added-spec : {M : Type 1} → statement M
+tell-added-spec =
+    tie.close (tie.spec enum-known-answer enum-known-answer-2 number-requires returns returns-2)

@@ -1,0 +1,70 @@
+-- The reading is of the tracker with these numbers, and its answer is told.
+use mathlib.Core.Path.{ap, _∙_}
+use Rattle.book.specs.declared.trackers.Tracker.{Tracker}
+use Rattle.divergence.specs.Readings.{Reading, Divergences, room, allAddresses, allFigures}
+use Rattle.divergence.specs.Answers.{AllResult, allResult}
+use Rattle.exports.specs.Codes.{code, written, scaleNamed, pointNamed}
+use Rattle.exports.specs.Outputs.{allCounts}
+use Rattle.exports.specs.Asked.{allAsked}
+use borrow.Author.Needs.{needs}
+use Rattle.exports.proofs.readings.teakpool_all_node_kl.Statement.{statement}
+use Rattle.exports.proofs.readings.teakpool_all_node_kl.Tie as tie
+
+tracker-of-requires : tie.Need-tracker-of-requires
+tracker-of-requires c κs = search needs
+
+all-node-kl-requires : tie.Need-all-node-kl-requires
+all-node-kl-requires c κs = search needs
+
+tell-all-requires : tie.Need-tell-all-requires
+tell-all-requires c κs = search needs
+
+same-length : tie.Need-same-length
+same-length c = search needs
+
+same-length-2 : tie.Need-same-length-2
+same-length-2 c = search needs
+
+returns : tie.Need-returns
+returns c =
+    let asked = c .before .before .before .before .before .before .before .before in
+    let made = asked .before .before .before in
+    let start = made .before .before .before .before .before .before .before .before .before in
+    let book = start .args .book .now in
+    let queue = start .args .queue .now in
+    let nodes = start .args .nodes .now in
+    let children = start .args .children .now in
+    let g = start .args .g .now in
+    let d = start .args .d .now in
+    let addresses = start .args .addresses .now in
+    let figures = start .args .figures .now in
+    let same = ap (λ (t : Tracker). allAsked t book queue nodes children g d (room addresses figures)) (made .tracker-of .ensures) in
+    let said = asked .all-node-kl .ensures in
+    let told = c .tell-all .ensures in
+    let result = said .0 ∙ ap allResult same in (
+      told .0 ∙ ap code result,
+      (
+        said .1 .0 ∙ ap (λ (r : Reading Divergences). allAddresses r addresses) same,
+        (
+          said .1 .1 ∙ ap (λ (r : Reading Divergences). allFigures r figures) same,
+          (
+            told .1 .0 ∙ ap (λ (r : Reading AllResult). written allCounts r (start .args .counts .now)) result,
+            (
+              told .1 .1 .0 ∙ ap (λ (r : Reading AllResult). scaleNamed r (start .args .node-scale .now)) result,
+              told .1 .1 .1 ∙ ap (λ (r : Reading AllResult). pointNamed r (start .args .node-point .now)) result,
+            ),
+          ),
+        ),
+      ),
+    )
+
+pub teakpool-all-node-kl-spec : {M : Type 1} → statement M
+teakpool-all-node-kl-spec =
+    tie.close
+    (tie.spec
+    tracker-of-requires
+    all-node-kl-requires
+    tell-all-requires
+    same-length
+    same-length-2
+    returns)

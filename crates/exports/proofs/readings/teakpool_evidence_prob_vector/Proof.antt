@@ -1,0 +1,70 @@
+-- The reading is of the tracker with these numbers, and its answer is told.
+use mathlib.Core.Path.{_≡_, ap, ap₂, _∙_}
+use mir.Syntax.{w32}
+use mir.ValLaws.{toZ-ofZ}
+use lib.IntN.{ℤ}
+use Rattle.priors.specs.Address.{rankOf}
+use Rattle.priors.specs.Priors.{Counts}
+use Rattle.book.specs.declared.trackers.Tracker.{Tracker}
+use Rattle.divergence.specs.Readings.{Reading, room, vectorAddresses, vectorFigures}
+use Rattle.divergence.specs.Answers.{VectorResult, vectorResult}
+use Rattle.exports.specs.Codes.{code, written}
+use Rattle.exports.specs.Outputs.{placesOf, endingOf}
+use Rattle.exports.specs.Asked.{evidenceAsked}
+use borrow.Author.Needs.{needs}
+use Rattle.exports.proofs.readings.teakpool_evidence_prob_vector.Statement.{statement}
+use Rattle.exports.proofs.readings.teakpool_evidence_prob_vector.Tie as tie
+
+tracker-of-requires : tie.Need-tracker-of-requires
+tracker-of-requires c κs = search needs
+
+evidence-prob-vector-requires : tie.Need-evidence-prob-vector-requires
+evidence-prob-vector-requires c κs = search needs
+
+tell-vector-requires : tie.Need-tell-vector-requires
+tell-vector-requires c κs = search needs
+
+same-length : tie.Need-same-length
+same-length c = search needs
+
+same-length-2 : tie.Need-same-length-2
+same-length-2 c = search needs
+
+returns : tie.Need-returns
+returns c =
+    let asked = c .before .before .before .before .before .before .before in
+    let made = asked .before .before .before in
+    let start = made .before .before .before .before .before in
+    let book = start .args .book .now in
+    let queue = start .args .queue .now in
+    let addresses = start .args .addresses .now in
+    let figures = start .args .figures .now in
+    let same =
+    ap₂ (λ (t : Tracker) (scale : ℤ). evidenceAsked t book queue (rankOf scale (start .args .point)) (room addresses figures))
+    (made .tracker-of .ensures) (toZ-ofZ w32 (start .args .scale) (start .fits .scale)) in
+    let said = asked .evidence-prob-vector .ensures in
+    let told = c .tell-vector .ensures in
+    let result = said .0 ∙ ap vectorResult same in (
+      told .0 ∙ ap code result,
+      (
+        said .1 .0 ∙ ap (λ (r : Reading Counts). vectorAddresses r addresses) same,
+        (
+          said .1 .1 ∙ ap (λ (r : Reading Counts). vectorFigures r figures) same,
+          (
+            told .1 .0 ∙ ap (λ (r : Reading VectorResult). written placesOf r (start .args .places .now)) result,
+            told .1 .1 ∙ ap (λ (r : Reading VectorResult). written endingOf r (start .args .ending .now)) result,
+          ),
+        ),
+      ),
+    )
+
+pub teakpool-evidence-prob-vector-spec : {M : Type 1} → statement M
+teakpool-evidence-prob-vector-spec =
+    tie.close
+    (tie.spec
+    tracker-of-requires
+    evidence-prob-vector-requires
+    tell-vector-requires
+    same-length
+    same-length-2
+    returns)

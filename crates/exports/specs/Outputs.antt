@@ -1,0 +1,78 @@
+-- The parts of each answer in the order in which they stand in lent numbers and arrays. Assumes nothing.
+use Prim.Native.Nat.{ℕ}
+use mathlib.Core.List.{List, [], _∷_}
+use mathlib.Core.Option.{Option, none, some}
+use lib.ListN.{getD}
+use lib.Ieee.{Float}
+use Rattle.book.specs.declared.trackers.Tracker.{Tracker}
+use Rattle.book.specs.declared.trackers.Opened.{Opened}
+use Rattle.book.specs.declared.trackers.Added.{Added}
+use Rattle.book.specs.declared.trackers.Added.the-variants.{Taken, Refused as NotAdded}
+use Rattle.book.specs.Calls.{openState, openedState, addNumber, addState, unlessRefused}
+use Rattle.divergence.specs.Readings.{Statistics}
+use Rattle.divergence.specs.Answers.{VectorResult, AllResult}
+use Rattle.baseline.specs.declared.figures.KLDivergenceBaselineStats.{KLDivergenceBaselineStats}
+
+-- ---- a tracker: window, entries used, paths accepted
+
+abbrev pub trackerOf : List ℕ → Tracker
+trackerOf state = record { window = getD state 0 0; used = getD state 1 0; accepted = getD state 2 0 }
+
+abbrev pub numbersOf : Tracker → List ℕ
+numbersOf t = t .window ∷ t .used ∷ t .accepted ∷ []
+
+-- a refused opening gives no state, and the one before it stands
+abbrev pub numbersOr : Option Tracker → List ℕ → List ℕ
+numbersOr none before = before
+numbersOr (some t) before = numbersOf t
+
+abbrev pub openedNumbers : Opened → List ℕ → List ℕ
+openedNumbers answer before = numbersOr (openedState answer) before
+
+abbrev pub openNumbers : ℕ → List ℕ → List ℕ → List ℕ → List ℕ
+openNumbers window book queue before = numbersOr (openState window book queue) before
+
+-- a refused add leaves the state as it was
+abbrev pub addedNumbers : Added → List ℕ → List ℕ
+addedNumbers (Taken t) before = numbersOf t
+addedNumbers (NotAdded r t) before = before
+
+abbrev pub addNumbers : List ℕ → List ℕ → List ℕ → List ℕ → List ℕ
+addNumbers state book queue path =
+    unlessRefused (addNumber (trackerOf state) book queue path) (numbersOf (addState (trackerOf state) book queue path)) state
+
+-- ---- readings
+
+abbrev pub placesOf : VectorResult → ℕ
+placesOf v = v .places
+
+abbrev pub endingOf : VectorResult → Float
+endingOf v = v .ending
+
+-- an answer of one part
+abbrev pub itself : {X : Type 0} → X → X
+itself x = x
+
+-- places filled, nodes skipped
+abbrev pub allCounts : AllResult → List ℕ
+allCounts a = a .places ∷ a .skipped ∷ []
+
+-- maximum, minimum, sum, sum of squares
+abbrev pub fourFigures : Statistics → List Float
+fourFigures a = a .stats .max ∷ a .stats .min ∷ a .stats .«moment1_nz» ∷ a .stats .«moment2_nz» ∷ []
+
+-- number above 1.0e-10, sequence length, nodes skipped
+abbrev pub threeCounts : Statistics → List ℕ
+threeCounts a = a .stats .«nz_count» ∷ a .stats .«sequence_len» ∷ a .skipped ∷ []
+
+-- ---- baselines
+
+-- mean and variance of maximum, minimum, number, sum and sum of squares
+abbrev pub tenFigures : KLDivergenceBaselineStats → List Float
+tenFigures f =
+    f .max .mean ∷ f .max .variance
+    ∷ f .min .mean ∷ f .min .variance
+    ∷ f .«nz_count» .mean ∷ f .«nz_count» .variance
+    ∷ f .«moment1_nz» .mean ∷ f .«moment1_nz» .variance
+    ∷ f .«moment2_nz» .mean ∷ f .«moment2_nz» .variance
+    ∷ []

@@ -1,0 +1,44 @@
+// Opening a tracker and adding a path. The tracker's three numbers stand in a lent array: window, entries used, paths accepted. A
+// refused call leaves all that is lent as it was.
+ghost use mathlib.Core.Path.{_≡_};
+ghost use Rattle.book.specs.Calls.{openNumber, openBook, openQueue, addNumber, addBook, addQueue};
+ghost use Rattle.exports.specs.Outputs.{trackerOf, openNumbers, addNumbers};
+use crate::answers::tell_added;
+use crate::answers::tell_opened;
+use crate::answers::tracker_of;
+use book::trackers::Tracker;
+
+// Numbers 8 and 9.
+#[no_mangle]
+pub extern "C" fn teakpool_open(
+    window: u32,
+    book: &mut [u8],
+    queue: &mut [u8],
+    state: &mut [u32; 3],
+) -> u32
+    ensures { λ r. ⌜ r ≡ openNumber window (now (book .entry)) (now (queue .entry)) ⌝ }
+    ensures { λ _. ⌜ now (book .exit) ≡ openBook window (now (book .entry)) (now (queue .entry)) ⌝ }
+    ensures { λ _. ⌜ now (queue .exit) ≡ openQueue window (now (book .entry)) (now (queue .entry)) ⌝ }
+    ensures { λ _. ⌜ now (state .exit) ≡ openNumbers window (now (book .entry)) (now (queue .entry)) (now (state .entry)) ⌝ }
+{
+    let answer = Tracker::open(window, book, queue);
+    tell_opened(answer, state)
+}
+
+// Numbers 9 to 12.
+#[no_mangle]
+pub extern "C" fn teakpool_add_path(
+    state: &mut [u32; 3],
+    book: &mut [u8],
+    queue: &mut [u8],
+    path: &[u8],
+) -> u32
+    ensures { λ r. ⌜ r ≡ addNumber (trackerOf (now (state .entry))) (now (book .entry)) (now (queue .entry)) (now (path .entry)) ⌝ }
+    ensures { λ _. ⌜ now (book .exit) ≡ addBook (trackerOf (now (state .entry))) (now (book .entry)) (now (queue .entry)) (now (path .entry)) ⌝ }
+    ensures { λ _. ⌜ now (queue .exit) ≡ addQueue (trackerOf (now (state .entry))) (now (book .entry)) (now (queue .entry)) (now (path .entry)) ⌝ }
+    ensures { λ _. ⌜ now (state .exit) ≡ addNumbers (now (state .entry)) (now (book .entry)) (now (queue .entry)) (now (path .entry)) ⌝ }
+{
+    let t = tracker_of(state);
+    let answer = t.add_path(book, queue, path);
+    tell_added(answer, state)
+}

@@ -1,0 +1,89 @@
+# Reads `objdump -dr` of the archive and prints, for each exported function, the bytes of stack that it can take at most: every push
+# and every `sub` on the stack pointer in a function counts, whichever way control goes, with the return address of each call, along
+# the deepest chain of calls. What the C library takes is not in it.
+function number(digits,    i, value) {
+    value = 0
+    for (i = 1; i <= length(digits); i++) {
+        value = 16 * value + index("0123456789abcdef", substr(digits, i, 1)) - 1
+    }
+    return value
+}
+
+function refuse(line) {
+    print "stack: not measured in " name ": " line > "/dev/stderr"
+    refused = 1
+    exit 1
+}
+
+function deepest(name, chain,    callees, i, n, most, below) {
+    if (index(chain, "|" name "|")) {
+        print "stack: " name " calls itself" > "/dev/stderr"
+        exit 1
+    }
+    most = 0
+    n = split(calls[name], callees, "\n")
+    for (i = 1; i <= n; i++) {
+        if (callees[i] != "" && callees[i] in own) {
+            below = deepest(callees[i], chain "|" name "|")
+            if (below > most) {
+                most = below
+            }
+        }
+    }
+    return 8 + own[name] + most
+}
+
+/^[0-9a-f]+ <.*>:$/ {
+    name = $0
+    sub(/^[0-9a-f]+ </, "", name)
+    sub(/>:$/, "", name)
+    own[name] = 0
+    next
+}
+
+/[ \t]push / {
+    own[name] += 8
+}
+
+/[ \t]sub +\$0x[0-9a-f]+,%rsp/ {
+    match($0, /0x[0-9a-f]+,%rsp/)
+    own[name] += number(substr($0, RSTART + 2, RLENGTH - 7))
+}
+
+# What is given back: an `add` of at most eight digits.
+/[ \t]add +\$0x[0-9a-f]+,%rsp/ && !/\$0x[0-9a-f][0-9a-f][0-9a-f][0-9a-f][0-9a-f][0-9a-f][0-9a-f][0-9a-f][0-9a-f]/ {
+    next
+}
+
+# A stack pointer that is set in another way, and a call that names no function, are not measured.
+(/[ \t](and|lea|mov|add) .*,%rsp/ || /[ \t]call +\*/) {
+    refuse($0)
+}
+
+# A jump by a table of the function's own, as a match compiles to, stays in the function.
+/[ \t]jmp +\*/ {
+    if (!(name in table)) {
+        refuse($0)
+    }
+}
+
+/R_X86_64_(PLT32|PC32|GOTPCREL)/ {
+    callee = $NF
+    sub(/[-+]0x[0-9a-f]+$/, "", callee)
+    if (callee == ".rodata." name) {
+        table[name] = 1
+    }
+    sub(/^\.text\./, "", callee)
+    calls[name] = calls[name] callee "\n"
+}
+
+END {
+    if (refused) {
+        exit 1
+    }
+    for (name in own) {
+        if (name ~ /^teakpool_/) {
+            print deepest(name, ""), name
+        }
+    }
+}
