@@ -1,12 +1,13 @@
 #!/bin/sh
 # Builds the Rust side and runs its unit tests, the comparison with goko, and the replay of the
-# recorded sample; fails at the first failure. Needs no network. Without goko's sources it says
-# so in a line and goes on with what is left.
+# recorded sample; then what goes through the archive: the crate over it with its examples, the
+# comparison at scale, and the example day. Fails at the first failure. Needs no network. Without
+# goko's sources, or without the archive and rt, it says so in a line and goes on.
 set -eu
 cd "$(dirname "$0")"
 
-cargo build --release --offline --workspace --quiet
-cargo test --release --offline --workspace --quiet --test '*'
+cargo build --release --offline --quiet
+cargo test --release --offline --quiet --test '*'
 cargo run --release --offline --quiet -p compare -- "$@"
 cargo run --release --offline --quiet -p vectors -- replay ../vectors
 
@@ -16,4 +17,16 @@ cargo run --release --offline --quiet -p vectors -- record target/vectors
 for file in ../vectors/*.bin; do
     cmp "$file" "target/vectors/$(basename "$file")"
 done
+
+archive=${TEAKPOOL_ARCHIVE:-../target/staticlib/libexports.a}
+if [ -f "$archive" ] || { [ -d ../crates/exports ] && command -v rt >/dev/null; }; then
+    ../run > target/example.out
+    diff ../days/example.out target/example.out
+    echo "the example day: the report is the stored one"
+    cargo test --release --offline --quiet -p teakpool -p watch
+    sed -n '/^```rust$/,/^```$/p' ../README.md | sed '/^```/d' | diff - teakpool/examples/readme.rs
+    cargo run --release --offline --quiet -p through -- "$@"
+else
+    echo "neither the archive nor what builds it is there: what goes through the archive is left out"
+fi
 echo "the Rust side: all checks passed"

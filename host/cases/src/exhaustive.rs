@@ -2,6 +2,8 @@
 //! of them, for given windows and capacities, with all readings at the end.
 
 use crate::calls::{Call, CallList, Places, PriorBytes, Tables};
+use crate::rng::Rng;
+use crate::{priors, tables};
 use recount::limits::{ENTRY_BYTES, PLACE_BYTES};
 use recount::{path_bytes, Address};
 
@@ -18,6 +20,23 @@ pub fn paths(steps: usize) -> Vec<Vec<Address>> {
         all.extend(longest.clone());
     }
     all
+}
+
+/// Calls `each` with every list of up to four paths of up to two steps, and of two paths of up to
+/// three, with whole priors, with priors that lack something, and with tables that end early.
+pub fn each_short_list(mut each: impl FnMut(&CallList)) {
+    let mut rng = Rng::new(0);
+    let gamma = tables::gamma(24);
+    let whole = priors::whole(&mut rng, &ADDRESSES, 3);
+    let sparse = priors::sparse(&mut rng, &ADDRESSES, 3, 60);
+    let cut = tables::gamma(6);
+    for lent in [(&gamma, &whole), (&gamma, &sparse), (&cut, &whole)] {
+        for (capacities, size) in
+            [(&[1, 2, 3, 4, 5, 6][..], (2, 3)), (&[5, 6][..], (2, 4)), (&[6][..], (3, 2))]
+        {
+            each_list(&[0, 1, 2, 3], capacities, size, lent, &mut each);
+        }
+    }
 }
 
 /// Calls `each` with every list of exactly `adds` paths.

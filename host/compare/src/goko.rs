@@ -1,6 +1,6 @@
-//! Holds the recount's answers against goko's. Where the recount refuses by a limit that goko
-//! does not have, nothing is compared; where it refuses with 14, 15 or 18, goko must break
-//! off, or give none for 14 of a single node.
+//! Holds answers against goko's, the recount's or the archive's. Where they refuse by a limit
+//! that goko does not have, nothing is compared; where they refuse with 14, 15 or 18, goko must
+//! break off, or give none for 14 of a single node.
 
 use crate::{Compared, Tally};
 use cases::baselines::{StatsAsked, Training};
@@ -51,7 +51,7 @@ fn same(tally: &mut Tally, what: &str, ours: f64, theirs: f64) -> Compared {
     if ours.to_bits() == theirs.to_bits() || (ours.is_nan() && theirs.is_nan()) {
         Ok(())
     } else {
-        Err(format!("{}: the recount has {:?}, goko has {:?}", what, ours, theirs))
+        Err(format!("{}: here {:?}, goko has {:?}", what, ours, theirs))
     }
 }
 
@@ -59,58 +59,74 @@ fn equal<T: PartialEq + std::fmt::Debug>(what: &str, ours: T, theirs: T) -> Comp
     if ours == theirs {
         Ok(())
     } else {
-        Err(format!("{}: the recount has {:?}, goko has {:?}", what, ours, theirs))
+        Err(format!("{}: here {:?}, goko has {:?}", what, ours, theirs))
     }
 }
 
-/// Plays a list on both.
+/// Plays a list on the recount and on goko.
 pub fn compare_list(list: &CallList, tally: &mut Tally) -> Compared {
-    let mut both = Both { player: Player::new(History::default()), goko: Goko::open(0) };
+    let mut player = Player::new(History::default());
+    let mut beside = Beside::default();
     for (index, call) in list.calls.iter().enumerate() {
-        both.call(call, tally).map_err(|text| format!("call {} of {:#?}\n{}", index, list, text))?;
+        let answer = player.play(call);
+        beside
+            .hold(call, &answer, &player, tally)
+            .map_err(|text| format!("call {} of {:#?}\n{}", index, list, text))?;
     }
     Ok(())
 }
 
-struct Both {
-    player: Player<History>,
-    goko: Goko,
+/// goko's tracker beside another that is played the same calls.
+pub struct Beside(Goko);
+
+impl Default for Beside {
+    fn default() -> Beside {
+        Beside(Goko::open(0))
+    }
 }
 
-impl Both {
-    fn call(&mut self, call: &Call, tally: &mut Tally) -> Compared {
-        match self.player.play(call) {
-            Answer::Lent => self.lend(),
-            Answer::Changed(Ok(())) => self.change(call, tally)?,
+impl Beside {
+    /// Carries out the call and holds `answer` against what goko gives. `played` is the recount
+    /// after the same call.
+    pub fn hold(
+        &mut self,
+        call: &Call,
+        answer: &Answer,
+        played: &Player<History>,
+        tally: &mut Tally,
+    ) -> Compared {
+        match answer {
+            Answer::Lent => self.lend(played),
+            Answer::Changed(Ok(())) => self.change(call, played, tally)?,
             Answer::Changed(Err(_)) => tally.not_comparable += 1,
-            Answer::Vector(answer, output) => self.vector(call, answer, &output, tally)?,
-            Answer::Divergence(answer) => self.divergence(call, answer, tally)?,
-            Answer::List(answer, output) => self.list(answer, &output, tally)?,
-            Answer::Stats(answer) => self.stats(answer, tally)?,
+            Answer::Vector(answer, output) => self.vector(call, *answer, output, tally)?,
+            Answer::Divergence(answer) => self.divergence(call, *answer, tally)?,
+            Answer::List(answer, output) => self.list(*answer, output, tally)?,
+            Answer::Stats(answer) => self.stats(*answer, tally)?,
         }
         Ok(())
     }
 
-    fn lend(&mut self) {
-        oracle::lend_tables(&self.player.tables.g, &self.player.tables.d);
-        self.goko.lend_priors(&goko_priors(&self.player.priors));
+    fn lend(&mut self, played: &Player<History>) {
+        oracle::lend_tables(&played.tables.g, &played.tables.d);
+        self.0.lend_priors(&goko_priors(&played.priors));
     }
 
-    fn change(&mut self, call: &Call, tally: &mut Tally) -> Compared {
+    fn change(&mut self, call: &Call, played: &Player<History>, tally: &mut Tally) -> Compared {
         tally.changes += 1;
         match call {
             Call::Add { path } => {
-                let added = self.goko.add_path(&node_addresses(path));
+                let added = self.0.add_path(&node_addresses(path));
                 added.map_err(|panic| format!("goko's add_path: {:?}", panic))?;
             }
             _ => {
-                self.goko = Goko::open(self.player.side.state().window as usize);
-                self.lend();
+                self.0 = Goko::open(played.side.state().window as usize);
+                self.lend(played);
             }
         }
-        let evidence = self.player.side.evidence().expect("the recount's tracker is in form");
-        equal("sequence length", evidence.sequence_len as usize, self.goko.sequence_len())?;
-        equal("counts", goko_evidence(&evidence), self.goko.evidence())
+        let evidence = played.side.evidence().expect("the recount's tracker is in form");
+        equal("sequence length", evidence.sequence_len as usize, self.0.sequence_len())?;
+        equal("counts", goko_evidence(&evidence), self.0.evidence())
     }
 
     fn vector(
@@ -121,8 +137,8 @@ impl Both {
         tally: &mut Tally,
     ) -> Compared {
         let theirs = match call {
-            Call::ProbVector { node, .. } => self.goko.prob_vector(node_address(*node)),
-            Call::EvidenceProbVector { node, .. } => self.goko.evidence_prob_vector(node_address(*node)),
+            Call::ProbVector { node, .. } => self.0.prob_vector(node_address(*node)),
+            Call::EvidenceProbVector { node, .. } => self.0.evidence_prob_vector(node_address(*node)),
             _ => unreachable!("only these two give vectors"),
         };
         let theirs = theirs.map_err(|panic| format!("goko's probability vector: {:?}", panic))?;
@@ -134,7 +150,7 @@ impl Both {
                 same(tally, "ending", ours.ending, ending)?;
                 same_places(tally, ours.places, output, children)?;
             }
-            (ours, theirs) => return Err(format!("the recount has {:?}, goko has {:?}", ours, theirs)),
+            (ours, theirs) => return Err(format!("here {:?}, goko has {:?}", ours, theirs)),
         }
         Ok(())
     }
@@ -143,7 +159,7 @@ impl Both {
         let Call::PosteriorKlDivergence { node } = call else {
             unreachable!("only this gives one divergence");
         };
-        match (answer, self.goko.posterior_kl_divergence(node_address(*node))) {
+        match (answer, self.0.posterior_kl_divergence(node_address(*node))) {
             (Ok(Some(ours)), Ok(Some(Some(theirs)))) => {
                 tally.readings += 1;
                 same(tally, "divergence", ours, theirs)
@@ -157,7 +173,7 @@ impl Both {
                 Ok(())
             }
             (Err(refusal), theirs) => both_break_off(refusal, theirs, tally),
-            (ours, theirs) => Err(format!("divergence: the recount has {:?}, goko has {:?}", ours, theirs)),
+            (ours, theirs) => Err(format!("divergence: here {:?}, goko has {:?}", ours, theirs)),
         }
     }
 
@@ -167,7 +183,7 @@ impl Both {
         output: &Places,
         tally: &mut Tally,
     ) -> Compared {
-        match (answer, self.goko.all_node_kl()) {
+        match (answer, self.0.all_node_kl()) {
             (Ok(ours), Ok((list, skipped))) => {
                 tally.readings += 1;
                 equal("skipped", u64::from(ours.skipped), skipped)?;
@@ -175,12 +191,12 @@ impl Both {
                 same_places(tally, ours.places, output, swapped)
             }
             (Err(refusal), theirs) => both_break_off(refusal, theirs, tally),
-            (ours, theirs) => Err(format!("all_node_kl: the recount has {:?}, goko has {:?}", ours, theirs)),
+            (ours, theirs) => Err(format!("all_node_kl: here {:?}, goko has {:?}", ours, theirs)),
         }
     }
 
     fn stats(&self, answer: Result<recount::KLDivergenceStats, Refusal>, tally: &mut Tally) -> Compared {
-        match (answer, self.goko.kl_div_stats()) {
+        match (answer, self.0.kl_div_stats()) {
             (Ok(ours), Ok(theirs)) => {
                 tally.readings += 1;
                 same(tally, "maximum", ours.max, theirs.max)?;
@@ -191,7 +207,7 @@ impl Both {
                 equal("sequence length", ours.sequence_len as usize, theirs.sequence_len)
             }
             (Err(refusal), theirs) => both_break_off(refusal, theirs, tally),
-            (ours, theirs) => Err(format!("kl_div_stats: the recount has {:?}, goko has {:?}", ours, theirs)),
+            (ours, theirs) => Err(format!("kl_div_stats: here {:?}, goko has {:?}", ours, theirs)),
         }
     }
 }
@@ -208,7 +224,7 @@ fn both_break_off<T: std::fmt::Debug>(
             tally.broken_off += 1;
             Ok(())
         }
-        (14 | 15, theirs) => Err(format!("the recount refuses with {:?}, goko has {:?}", refusal, theirs)),
+        (14 | 15, theirs) => Err(format!("refused here with {:?}, goko has {:?}", refusal, theirs)),
         _ => {
             tally.not_comparable += 1;
             Ok(())
@@ -239,10 +255,20 @@ fn same_places(tally: &mut Tally, places: u32, output: &Places, theirs: Vec<(Nod
     Ok(())
 }
 
-/// Runs a training on both.
+/// Runs a training on the recount and on goko.
 pub fn compare_training(training: &Training, tally: &mut Tally) -> Compared {
     let mut ours = training.clone();
     let answer = ours.run();
+    hold_training(training, &ours, answer, tally)
+}
+
+/// Holds a training's answer, and what it left in knots and values, against goko's.
+pub fn hold_training(
+    training: &Training,
+    ours: &Training,
+    answer: Result<u32, Refusal>,
+    tally: &mut Tally,
+) -> Compared {
     if let Err(Refusal { number, .. }) = answer {
         if number != 14 && number != 15 {
             tally.not_comparable += 1;
@@ -262,7 +288,7 @@ pub fn compare_training(training: &Training, tally: &mut Tally) -> Compared {
             pairs.try_for_each(|(ours, theirs)| same(tally, "knot value", *ours, theirs))
         }
         (Err(refusal), theirs) => both_break_off(refusal, theirs, tally),
-        (ours, theirs) => Err(format!("train: the recount has {:?}, goko has {:?}", ours, theirs)),
+        (ours, theirs) => Err(format!("train: here {:?}, goko has {:?}", ours, theirs)),
     }
     .map_err(|text| format!("{:#?}\n{}", training, text))
 }
@@ -278,28 +304,37 @@ fn goko_sequences(training: &Training) -> Vec<Vec<Vec<NodeAddress>>> {
     (0..training.sequences as usize).map(|s| paths[s * length..(s + 1) * length].to_vec()).collect()
 }
 
-/// Asks `stats` of both.
+/// Asks `stats` of the recount and of goko.
 pub fn compare_stats(asked: &StatsAsked, tally: &mut Tally) -> Compared {
-    let knots: Vec<usize> = asked.knots.iter().map(|knot| *knot as usize).collect();
-    for length in &asked.lengths {
+    asked.lengths.iter().try_for_each(|length| {
         let answer = recount::stats(asked.sequences, &asked.knots, &asked.values, *length);
-        if matches!(answer, Err(Refusal { number: 17, .. })) {
-            tally.not_comparable += 1;
-            continue;
-        }
-        let theirs = oracle::stats(asked.sequences as usize, &knots, &asked.values, *length as usize);
-        match (answer, theirs) {
-            (Ok(ours), Ok(theirs)) => {
-                tally.stats += 1;
-                for (ours, theirs) in ours.ten_values().into_iter().zip(theirs) {
-                    same(tally, "mean or variance", ours, theirs)?;
-                }
-            }
-            (Err(Refusal { number: 18, .. }), Err(_)) => tally.broken_off += 1,
-            (ours, theirs) => {
-                return Err(format!("stats: the recount has {:?}, goko has {:?}", ours, theirs))
-            }
-        }
+        hold_stats(asked, *length, answer.map(|stats| stats.ten_values()), tally)
+    })
+}
+
+/// Holds the ten figures of a baseline at a length against goko's.
+pub fn hold_stats(
+    asked: &StatsAsked,
+    length: u32,
+    answer: Result<[f64; KNOT_VALUES], Refusal>,
+    tally: &mut Tally,
+) -> Compared {
+    if matches!(answer, Err(Refusal { number: 17, .. })) {
+        tally.not_comparable += 1;
+        return Ok(());
     }
-    Ok(())
+    let knots: Vec<usize> = asked.knots.iter().map(|knot| *knot as usize).collect();
+    let theirs = oracle::stats(asked.sequences as usize, &knots, &asked.values, length as usize);
+    match (answer, theirs) {
+        (Ok(ours), Ok(theirs)) => {
+            tally.stats += 1;
+            let mut pairs = ours.into_iter().zip(theirs);
+            pairs.try_for_each(|(ours, theirs)| same(tally, "mean or variance", ours, theirs))
+        }
+        (Err(Refusal { number: 18, .. }), Err(_)) => {
+            tally.broken_off += 1;
+            Ok(())
+        }
+        (ours, theirs) => Err(format!("stats: here {:?}, goko has {:?}", ours, theirs)),
+    }
 }

@@ -4,70 +4,12 @@
 //!
 //!     compare [--lists N] [--seed S]
 
-#[cfg(not(no_goko))]
-mod goko;
-mod own;
-
 use cases::calls::CallList;
 use cases::lists::{call_list, Shape};
 use cases::rng::Rng;
-use cases::{altered, baselines, exhaustive, priors, sample, tables};
-use recount::Refusal;
-use std::collections::BTreeMap;
+use cases::{altered, baselines, exhaustive, sample};
+use compare::{goko, own, Compared, Tally};
 use std::process::ExitCode;
-
-/// What was compared, by kind.
-#[derive(Debug, Default)]
-pub struct Tally {
-    /// Call lists, each played on the recount's history and on lent bytes.
-    pub lists: u64,
-    /// Openings and adds accepted, after which the counts were compared.
-    pub changes: u64,
-    /// Readings that both answer, or for which both have none.
-    pub readings: u64,
-    /// Trainings that both finish.
-    pub trainings: u64,
-    /// `stats` readings that both answer.
-    pub stats: u64,
-    /// Figures held against one another bit for bit.
-    pub figures: u64,
-    /// Calls that the recount refuses with 14, 15 or 18 and where goko breaks off as well.
-    pub broken_off: u64,
-    /// 14 for one node, where goko gives none.
-    pub none_for_14: u64,
-    /// Calls that the recount refuses by limits that goko does not have.
-    pub not_comparable: u64,
-    /// Adds on altered memory.
-    pub altered: u64,
-    /// What the recount gave, by refusal number, 0 for an answer.
-    pub numbers: BTreeMap<u32, u64>,
-}
-
-impl Tally {
-    /// Counts a result by its number.
-    pub fn result<T>(&mut self, result: &Result<T, Refusal>) {
-        let number = result.as_ref().err().map_or(0, |refusal| refusal.number);
-        *self.numbers.entry(number).or_default() += 1;
-    }
-
-    fn print(&self) {
-        println!(
-            "{} call lists, {} adds on altered memory: the recount's two parts agree",
-            self.lists, self.altered
-        );
-        println!("the recount's results by refusal number, 0 for an answer: {:?}", self.numbers);
-        if oracle::PRESENT {
-            println!("with goko, {} figures bit for bit:", self.figures);
-            println!("  {} openings and adds, all counts after each", self.changes);
-            println!("  {} readings, {} trainings, {} stats", self.readings, self.trainings, self.stats);
-            println!("  {} refusals by 14, 15 or 18 where goko breaks off", self.broken_off);
-            println!("  {} refusals by 14 of one node where goko gives none", self.none_for_14);
-            println!("  {} refusals by limits that goko does not have, not compared", self.not_comparable);
-        }
-    }
-}
-
-type Compared = Result<(), String>;
 
 fn main() -> ExitCode {
     let Some((lists, seed)) = arguments() else {
@@ -133,25 +75,14 @@ fn recorded_sample(tally: &mut Tally) -> Compared {
     sample::altered_adds().iter().try_for_each(|add| own::check_altered(add, tally))
 }
 
-/// Every list of four paths of up to two steps, and of two paths of up to three.
+/// Every short list.
 fn short_lists(tally: &mut Tally) -> Compared {
-    let mut rng = Rng::new(0);
-    let gamma = tables::gamma(24);
-    let whole = priors::whole(&mut rng, &exhaustive::ADDRESSES, 3);
-    let sparse = priors::sparse(&mut rng, &exhaustive::ADDRESSES, 3, 60);
-    let cut = tables::gamma(6);
     let mut result = Ok(());
-    for (tables, priors) in [(&gamma, &whole), (&gamma, &sparse), (&cut, &whole)] {
-        for (capacities, size) in
-            [(&[1, 2, 3, 4, 5, 6][..], (2, 3)), (&[5, 6][..], (2, 4)), (&[6][..], (3, 2))]
-        {
-            exhaustive::each_list(&[0, 1, 2, 3], capacities, size, (tables, priors), |list| {
-                if result.is_ok() {
-                    result = call_list_on_all(list, tally);
-                }
-            });
+    exhaustive::each_short_list(|list| {
+        if result.is_ok() {
+            result = call_list_on_all(list, tally);
         }
-    }
+    });
     result
 }
 
@@ -171,14 +102,12 @@ fn one_of_each(rng: &mut Rng, tally: &mut Tally) -> Compared {
 fn call_list_on_all(list: &CallList, tally: &mut Tally) -> Compared {
     tally.lists += 1;
     own::check_list(list, tally)?;
-    #[cfg(not(no_goko))]
     goko::compare_list(list, tally)?;
     Ok(())
 }
 
 fn training_on_both(training: &baselines::Training, tally: &mut Tally) -> Compared {
     own::check_training(training, tally)?;
-    #[cfg(not(no_goko))]
     goko::compare_training(training, tally)?;
     Ok(())
 }
@@ -187,7 +116,6 @@ fn stats_on_both(asked: &baselines::StatsAsked, tally: &mut Tally) -> Compared {
     for length in &asked.lengths {
         tally.result(&recount::stats(asked.sequences, &asked.knots, &asked.values, *length));
     }
-    #[cfg(not(no_goko))]
     goko::compare_stats(asked, tally)?;
     Ok(())
 }

@@ -1,0 +1,96 @@
+//! What both sides are given: 2,000 nodes with 7 children each, 14,000 transitions in all, so
+//! that a full book has 16,000 entries; ten-step paths over them; priors that know every child;
+//! tables.
+
+use cases::rng::Rng;
+use cases::tables::gamma;
+use teakpool::{Address, PriorRecords};
+
+/// Nodes, children of each, steps of a path.
+pub const NODES: usize = 2_000;
+pub const CHILDREN: usize = 7;
+const STEPS: usize = 10;
+/// The last index of the tables.
+const LAST: usize = 4_095;
+
+/// A prior: a node, its singleton count, its children with their counts.
+pub type Prior = (Address, u32, Vec<(Address, u32)>);
+
+/// All of it, made from a seed.
+pub struct Load {
+    children: Vec<Vec<usize>>,
+    unused: Vec<Vec<usize>>,
+    rng: Rng,
+    /// The priors, ascending.
+    pub priors: Vec<Prior>,
+    /// The priors as lent.
+    pub records: PriorRecords,
+    /// ln gamma and digamma.
+    pub tables: cases::calls::Tables,
+}
+
+/// Four scales of both signs, ascending with the index.
+fn address(index: usize) -> Address {
+    Address::new((index / (NODES / 4)) as i32 - 2, index as u32)
+}
+
+impl Load {
+    /// A load.
+    pub fn new(seed: u64) -> Load {
+        let mut rng = Rng::new(seed);
+        let mut children = Vec::new();
+        let (mut priors, mut records) = (Vec::new(), PriorRecords::default());
+        for node in 0..NODES {
+            let mut own: Vec<usize> = Vec::new();
+            while own.len() < CHILDREN {
+                let child = rng.below(NODES);
+                if !own.contains(&child) {
+                    own.push(child);
+                }
+            }
+            own.sort();
+            let counted: Vec<(Address, u32)> =
+                own.iter().map(|child| (address(*child), rng.between(1, 3) as u32)).collect();
+            let singleton = rng.between(1, 3) as u32;
+            records.node(address(node), singleton, &counted);
+            priors.push((address(node), singleton, counted));
+            children.push(own);
+        }
+        Load { unused: children.clone(), children, rng, priors, records, tables: gamma(LAST) }
+    }
+
+    /// A random path.
+    pub fn path(&mut self) -> Vec<Address> {
+        let mut node = self.rng.below(NODES);
+        let mut path = vec![address(node)];
+        while path.len() < STEPS {
+            node = self.rng.pick(&self.children[node]);
+            path.push(address(node));
+        }
+        path
+    }
+
+    /// `count` random paths.
+    pub fn paths(&mut self, count: usize) -> Vec<Vec<Address>> {
+        (0..count).map(|_| self.path()).collect()
+    }
+
+    /// A path that takes transitions not taken yet, while there are some.
+    pub fn fresh_path(&mut self) -> Option<Vec<Address>> {
+        let mut node = (0..NODES).find(|node| !self.unused[*node].is_empty())?;
+        let mut path = vec![address(node)];
+        while path.len() < STEPS {
+            node = match self.unused[node].pop() {
+                Some(child) => child,
+                None => self.rng.pick(&self.children[node]),
+            };
+            path.push(address(node));
+        }
+        Some(path)
+    }
+
+    /// Some node.
+    pub fn node(&mut self) -> Address {
+        address(self.rng.below(NODES))
+    }
+}

@@ -1,0 +1,90 @@
+//! What holds goko, the recount and the recount's part for lent bytes together; the program
+//! `compare` runs it on many cases, and `through` holds the archive's answers against goko's.
+//! Without goko's sources the module `goko` compares nothing.
+
+#[cfg(not(no_goko))]
+pub mod goko;
+#[cfg(no_goko)]
+#[path = "no_goko.rs"]
+pub mod goko;
+pub mod own;
+
+use recount::Refusal;
+use std::collections::BTreeMap;
+
+/// What was compared, by kind.
+#[derive(Debug, Default)]
+pub struct Tally {
+    /// Call lists, each played on the recount's history and on lent bytes.
+    pub lists: u64,
+    /// Openings and adds accepted, after which the counts were compared.
+    pub changes: u64,
+    /// Readings that both answer, or for which both have none.
+    pub readings: u64,
+    /// Trainings that both finish.
+    pub trainings: u64,
+    /// `stats` readings that both answer.
+    pub stats: u64,
+    /// Figures held against one another bit for bit.
+    pub figures: u64,
+    /// Calls that the recount refuses with 14, 15 or 18 and where goko breaks off as well.
+    pub broken_off: u64,
+    /// 14 for one node, where goko gives none.
+    pub none_for_14: u64,
+    /// Calls that the recount refuses by limits that goko does not have.
+    pub not_comparable: u64,
+    /// Adds on altered memory.
+    pub altered: u64,
+    /// What the recount gave, by refusal number, 0 for an answer.
+    pub numbers: BTreeMap<u32, u64>,
+}
+
+impl Tally {
+    /// Counts a result by its number.
+    pub fn result<T>(&mut self, result: &Result<T, Refusal>) {
+        let number = result.as_ref().err().map_or(0, |refusal| refusal.number);
+        *self.numbers.entry(number).or_default() += 1;
+    }
+
+    /// Adds what another tally counted.
+    pub fn join(&mut self, other: &Tally) {
+        self.lists += other.lists;
+        self.changes += other.changes;
+        self.readings += other.readings;
+        self.trainings += other.trainings;
+        self.stats += other.stats;
+        self.figures += other.figures;
+        self.broken_off += other.broken_off;
+        self.none_for_14 += other.none_for_14;
+        self.not_comparable += other.not_comparable;
+        self.altered += other.altered;
+        for (number, count) in &other.numbers {
+            *self.numbers.entry(*number).or_default() += count;
+        }
+    }
+
+    /// Prints all of it.
+    pub fn print(&self) {
+        println!(
+            "{} call lists, {} adds on altered memory: the recount's two parts agree",
+            self.lists, self.altered
+        );
+        println!("the recount's results by refusal number, 0 for an answer: {:?}", self.numbers);
+        self.print_goko();
+    }
+
+    /// Prints what was held against goko, if its sources were there.
+    pub fn print_goko(&self) {
+        if oracle::PRESENT {
+            println!("with goko, {} figures bit for bit:", self.figures);
+            println!("  {} openings and adds, all counts after each", self.changes);
+            println!("  {} readings, {} trainings, {} stats", self.readings, self.trainings, self.stats);
+            println!("  {} refusals by 14, 15 or 18 where goko breaks off", self.broken_off);
+            println!("  {} refusals by 14 of one node where goko gives none", self.none_for_14);
+            println!("  {} refusals by limits that goko does not have, not compared", self.not_comparable);
+        }
+    }
+}
+
+/// Nothing, or what differs.
+pub type Compared = Result<(), String>;

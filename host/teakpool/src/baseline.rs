@@ -1,0 +1,164 @@
+//! Training, and the baseline that it gives: means and variances at a sequence length.
+
+use crate::refusal::done;
+use crate::tracker::PLACE_BYTES;
+use crate::{raw, Address, Priors, Refusal, Tables};
+
+/// Values of a knot: a sum and a sum of squares for each of the five figures.
+pub const KNOT_VALUES: usize = 10;
+
+/// The sequences of a training: s times n paths as queue places, one sequence after another, and
+/// a rate: every how many paths a knot is taken.
+#[derive(Debug, Clone, Copy)]
+pub struct Sequences<'a> {
+    /// s, 1 to 64.
+    pub s: u32,
+    /// n, 0 to 65,536.
+    pub n: u32,
+    /// The rate.
+    pub rate: u32,
+    /// The places, 516 bytes a path.
+    pub places: &'a [u8],
+}
+
+/// One figure's mean and variance over the sequences.
+#[derive(Debug, Clone, Copy, PartialEq, Default)]
+pub struct MeanVariance {
+    /// The mean.
+    pub mean: f64,
+    /// The variance.
+    pub variance: f64,
+}
+
+/// A baseline's five figures at one length.
+#[derive(Debug, Clone, Copy, PartialEq, Default)]
+pub struct BaselineStats {
+    /// Of the maximum.
+    pub maximum: MeanVariance,
+    /// Of the minimum.
+    pub minimum: MeanVariance,
+    /// Of the number.
+    pub number: MeanVariance,
+    /// Of the sum.
+    pub sum: MeanVariance,
+    /// Of the sum of squares.
+    pub sum_of_squares: MeanVariance,
+}
+
+/// A baseline in lent memory.
+///
+/// Two sequences whose maxima are 6 and 10 at their one knot:
+///
+/// ```
+/// use teakpool::*;
+///
+/// # fn main() -> Result<(), Refusal> {
+/// let (g, d): (Vec<f64>, Vec<f64>) =
+///     (0..8).map(|k| (f64::from(k * k), f64::from(4 * k))).unzip();
+/// let tables = Tables { g: &g, d: &d };
+/// let mut records = PriorRecords::default();
+/// let (node, child) = (Address::new(1, 7), Address::new(0, 9));
+/// records.node(node, 1, &[(Address::new(0, 7), 2), (child, 3)]);
+///
+/// let places = [place_bytes(&[node, child]), place_bytes(&[node])].concat();
+/// let sequences = Sequences { s: 2, n: 1, rate: 1, places: &places };
+/// let (mut book, mut knots, mut values) = ([0; 72], [0; 1], [0.0; 10]);
+/// let baseline =
+///     Baseline::train(tables, records.lent(), sequences, &mut book, &mut knots, &mut values)?;
+/// assert_eq!(baseline.knots, [1]);
+/// assert_eq!(baseline.stats(1)?.maximum, MeanVariance { mean: 8.0, variance: 4.0 });
+/// assert_eq!(baseline.stats(2), Err(Refusal::OneKnot));
+/// # Ok(())
+/// # }
+/// ```
+#[derive(Debug, Clone, Copy)]
+pub struct Baseline<'a> {
+    /// s, the sequences that went in.
+    pub s: u32,
+    /// The knots, rising.
+    pub knots: &'a [u32],
+    /// Ten values a knot.
+    pub values: &'a [f64],
+}
+
+impl<'a> Baseline<'a> {
+    /// Trains: 1 to 7, 9, 16, 13, and 10, 12, 14 or 15 where a sequence meets one. `book` is for
+    /// the work alone and is zero afterwards; a stop zeroes `knots` and `values` too.
+    pub fn train(
+        tables: Tables,
+        priors: Priors,
+        sequences: Sequences,
+        book: &mut [u8],
+        knots: &'a mut [u32],
+        values: &'a mut [f64],
+    ) -> Result<Baseline<'a>, Refusal> {
+        let (mut count, mut node) = (0, Address::default());
+        // SAFETY: book, knots and values are lent exclusively, the rest are slices only read.
+        let answer = unsafe {
+            raw::teakpool_train(
+                tables.g.as_ptr(),
+                tables.g.len(),
+                tables.d.as_ptr(),
+                tables.d.len(),
+                priors.nodes.as_ptr(),
+                priors.nodes.len(),
+                priors.children.as_ptr(),
+                priors.children.len(),
+                sequences.places.as_ptr(),
+                sequences.places.len(),
+                sequences.s,
+                sequences.n,
+                sequences.rate,
+                book.as_mut_ptr(),
+                book.len(),
+                knots.as_mut_ptr(),
+                knots.len(),
+                values.as_mut_ptr(),
+                values.len(),
+                &mut count,
+                &mut node.scale,
+                &mut node.point,
+            )
+        };
+        done(answer, node)?;
+        let count = count as usize;
+        Ok(Baseline { s: sequences.s, knots: &knots[..count], values: &values[..KNOT_VALUES * count] })
+    }
+
+    /// Means and variances at a length: 17, 18. At a knot its own, between knots and past the
+    /// last interpolated, below the first or without knots all zeros.
+    pub fn stats(&self, length: u32) -> Result<BaselineStats, Refusal> {
+        let mut figures = [0.0; KNOT_VALUES];
+        // SAFETY: figures is ours alone and has ten numbers; knots and values are only read.
+        let answer = unsafe {
+            raw::teakpool_stats(
+                self.knots.as_ptr(),
+                self.knots.len(),
+                self.values.as_ptr(),
+                self.values.len(),
+                self.s,
+                length,
+                figures.as_mut_ptr(),
+            )
+        };
+        done(answer, Address::default())?;
+        let figure =
+            |index: usize| MeanVariance { mean: figures[2 * index], variance: figures[2 * index + 1] };
+        Ok(BaselineStats {
+            maximum: figure(0),
+            minimum: figure(1),
+            number: figure(2),
+            sum: figure(3),
+            sum_of_squares: figure(4),
+        })
+    }
+}
+
+/// A path as a queue place: its length, its steps, zeros. A path of more than 64 steps has no
+/// place; its length is written and the call that reads it gives 10.
+pub fn place_bytes(path: &[Address]) -> Vec<u8> {
+    let mut place = (path.len() as u32).to_le_bytes().to_vec();
+    place.extend(crate::path_bytes(path));
+    place.resize(PLACE_BYTES, 0);
+    place
+}

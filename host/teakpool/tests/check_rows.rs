@@ -1,0 +1,145 @@
+//! The kit's check rows of document 01, through the archive. G(k) = k × k and D(k) = 4k up to
+//! index 7; the prior of (1,7) has singleton 1 and children (0,7) with 2 and (0,9) with 3; the
+//! window is 1.
+
+use teakpool::*;
+
+const NODE: Address = Address::new(1, 7);
+const SEVEN: Address = Address::new(0, 7);
+const NINE: Address = Address::new(0, 9);
+
+struct Kit {
+    g: Vec<f64>,
+    d: Vec<f64>,
+    records: PriorRecords,
+}
+
+impl Kit {
+    fn up_to(last: u32) -> Kit {
+        let mut records = PriorRecords::default();
+        records.node(NODE, 1, &[(SEVEN, 2), (NINE, 3)]);
+        Kit {
+            g: (0..=last).map(|k| f64::from(k * k)).collect(),
+            d: (0..=last).map(|k| f64::from(4 * k)).collect(),
+            records,
+        }
+    }
+    fn tables(&self) -> Tables<'_> {
+        Tables { g: &self.g, d: &self.d }
+    }
+    fn priors(&self) -> Priors<'_> {
+        self.records.lent()
+    }
+}
+
+/// Calls `ask` on a tracker with a book of `entries` and these paths added.
+fn after<T>(entries: usize, paths: &[&[Address]], ask: impl FnOnce(&Tracker) -> T) -> Result<T, Refusal> {
+    let (mut book, mut queue) = (vec![0xff; ENTRY_BYTES * entries], [0xff; PLACE_BYTES]);
+    let mut tracker = Tracker::open(1, &mut book, &mut queue)?;
+    for path in paths {
+        tracker.add_path(&path_bytes(path))?;
+    }
+    Ok(ask(&tracker))
+}
+
+const FIRST: &[&[Address]] = &[&[NODE, NINE]];
+const SECOND: &[&[Address]] = &[&[NODE, NINE], &[NODE]];
+
+#[test]
+fn the_first_add() {
+    let kit = Kit::up_to(7);
+    let (mut addresses, mut figures) = ([0; 16], [-1.0; 2]);
+    let mut output = Output { addresses: &mut addresses, figures: &mut figures };
+    let ask = |tracker: &Tracker| {
+        let list = tracker.all_node_kl(kit.tables(), kit.priors(), &mut output).unwrap();
+        (list, tracker.kl_div_stats(kit.tables(), kit.priors()).unwrap())
+    };
+    let (list, stats) = after(8, FIRST, ask).unwrap();
+    assert_eq!(list, NodeKlList { places: 1, skipped: 1 });
+    assert_eq!(output.places(1).collect::<Vec<_>>(), [(NODE, 6.0)]);
+    assert_eq!(figures, [6.0, -1.0]);
+    assert_eq!((stats.maximum, stats.minimum, stats.number), (6.0, 6.0, 1));
+    assert_eq!((stats.sum, stats.sum_of_squares, stats.skipped), (6.0, 36.0, 1));
+}
+
+#[test]
+fn the_second_add() {
+    let kit = Kit::up_to(7);
+    let ask = |tracker: &Tracker| {
+        let ending_and_child = [tracker.book()[3 * 24 - 4 - 24], tracker.book()[3 * 24 - 4]];
+        let stats = tracker.kl_div_stats(kit.tables(), kit.priors()).unwrap();
+        let divergence = tracker.posterior_kl_divergence(kit.tables(), kit.priors(), NODE);
+        (ending_and_child, divergence, stats.sequence_length)
+    };
+    // (0,9) comes first, then the ending of (1,7) and its child, which stays with 0.
+    assert_eq!(after(8, SECOND, ask), Ok(([1, 0], Ok(Some(10.0)), 1)));
+}
+
+#[test]
+fn the_probabilities() {
+    let kit = Kit::up_to(7);
+    let (mut addresses, mut figures) = ([0; 16], [0.0; 2]);
+    let mut output = Output { addresses: &mut addresses, figures: &mut figures };
+    let ask = |tracker: &Tracker| {
+        let vector = tracker.prob_vector(kit.priors(), NODE, &mut output);
+        (vector, tracker.evidence_prob_vector(NINE, &mut output))
+    };
+    let vector = ProbVector { places: 2, ending: 2.0 / 7.0 };
+    assert_eq!(after(8, SECOND, ask), Ok((Ok(Some(vector)), Ok(None))));
+    assert_eq!(output.places(2).collect::<Vec<_>>(), [(SEVEN, 2.0 / 7.0), (NINE, 3.0 / 7.0)]);
+}
+
+#[test]
+fn tables_that_end_at_6() {
+    let kit = Kit::up_to(6);
+    let ask = |tracker: &Tracker| tracker.kl_div_stats(kit.tables(), kit.priors());
+    assert_eq!(after(8, SECOND, ask), Ok(Err(Refusal::PastTable(NODE))));
+}
+
+#[test]
+fn a_book_of_two_entries() {
+    assert_eq!(after(2, FIRST, |_| ()), Err(Refusal::BookFull));
+    assert_eq!(after(3, FIRST, |_| ()), Ok(()));
+}
+
+/// Ten values a knot of two sequences whose maxima are `first` and `second`.
+fn maxima(first: f64, second: f64) -> Vec<f64> {
+    let mut values = vec![0.0; KNOT_VALUES];
+    values[..2].copy_from_slice(&[first + second, first * first + second * second]);
+    values
+}
+
+#[test]
+fn two_sequences() {
+    let baseline = Baseline { s: 2, knots: &[1], values: &maxima(6.0, 10.0) };
+    assert_eq!(baseline.stats(1).unwrap().maximum, MeanVariance { mean: 8.0, variance: 4.0 });
+    assert_eq!(baseline.stats(2), Err(Refusal::OneKnot));
+}
+
+#[test]
+fn means_between_and_past_knots() {
+    let values = [maxima(6.0, 10.0), maxima(10.0, 10.0)].concat();
+    let baseline = Baseline { s: 2, knots: &[1, 11], values: &values };
+    let mean = |length: u32| baseline.stats(length).unwrap().maximum.mean;
+    assert_eq!((mean(6), mean(21), mean(0)), (9.0, 12.0, 0.0));
+}
+
+#[test]
+fn path_lengths_and_windows() {
+    let longest = vec![NODE; 65];
+    for (count, answer) in
+        [(0, Err(Refusal::PathLength)), (1, Ok(())), (64, Ok(())), (65, Err(Refusal::PathLength))]
+    {
+        assert_eq!(after(8, &[&longest[..count]], |_| ()), answer, "{} steps", count);
+    }
+    let mut queue = vec![0; PLACE_BYTES * 1_025];
+    let mut open = |window: u32| Tracker::open(window, &mut [0; ENTRY_BYTES], &mut queue).map(|_| ());
+    assert_eq!((open(1_024), open(1_025)), (Ok(()), Err(Refusal::Window)));
+}
+
+#[test]
+fn a_node_without_a_child_that_was_seen() {
+    let kit = Kit::up_to(7);
+    let ask = |tracker: &Tracker| tracker.kl_div_stats(kit.tables(), kit.priors());
+    assert_eq!(after(8, &[&[NODE, NODE]], ask), Ok(Err(Refusal::MissingChild(NODE))));
+}

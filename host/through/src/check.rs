@@ -1,0 +1,294 @@
+//! One case through the archive and on the recount: answers, outputs, state and every byte of
+//! book and queue must be the same, figures bit for bit. The archive's answers go to goko, too.
+
+use crate::archive::{Archive, Held, Told};
+use cases::altered::AlteredAdd;
+use cases::baselines::{StatsAsked, Training};
+use cases::calls::{Call, CallList, Places, PriorBytes, Tables};
+use cases::play::{Answer, History, Player, Side};
+use compare::goko::{self, Beside};
+use compare::{Compared, Tally};
+use recount::{
+    all_node_kl, check_priors, check_tables, evidence_prob_vector, kl_div_stats, memory,
+    posterior_kl_divergence, prob_vector, Address, Memory, Refusal,
+};
+use std::fmt::Debug;
+
+/// Equal as numbers' bits; a NaN equals any NaN.
+fn same_figure(one: f64, other: f64) -> bool {
+    one.to_bits() == other.to_bits() || (one.is_nan() && other.is_nan())
+}
+
+fn same_figures(one: &[f64], other: &[f64]) -> bool {
+    one.len() == other.len() && one.iter().zip(other).all(|(one, other)| same_figure(*one, *other))
+}
+
+fn same_places(one: &Places, other: &Places) -> bool {
+    one.addresses == other.addresses && same_figures(&one.figures, &other.figures)
+}
+
+/// Equal answers, by `same` where both have a value.
+fn same_result<T>(
+    one: &Result<T, Refusal>,
+    other: &Result<T, Refusal>,
+    same: impl Fn(&T, &T) -> bool,
+) -> bool {
+    match (one, other) {
+        (Ok(one), Ok(other)) => same(one, other),
+        (Err(one), Err(other)) => one == other,
+        _ => false,
+    }
+}
+
+fn same_option<T>(one: &Option<T>, other: &Option<T>, same: impl Fn(&T, &T) -> bool) -> bool {
+    match (one, other) {
+        (Some(one), Some(other)) => same(one, other),
+        (None, None) => true,
+        _ => false,
+    }
+}
+
+fn same_answer(one: &Answer, other: &Answer) -> bool {
+    match (one, other) {
+        (Answer::Lent, Answer::Lent) => true,
+        (Answer::Changed(one), Answer::Changed(other)) => one == other,
+        (Answer::Vector(one, left), Answer::Vector(other, right)) => {
+            let same = |one: &recount::ProbVector, other: &recount::ProbVector| {
+                one.places == other.places && same_figure(one.ending, other.ending)
+            };
+            same_result(one, other, |one, other| same_option(one, other, same)) && same_places(left, right)
+        }
+        (Answer::Divergence(one), Answer::Divergence(other)) => same_result(one, other, |one, other| {
+            same_option(one, other, |one, other| same_figure(*one, *other))
+        }),
+        (Answer::List(one, left), Answer::List(other, right)) => one == other && same_places(left, right),
+        (Answer::Stats(one), Answer::Stats(other)) => same_result(one, other, |one, other| {
+            let figures = |stats: &recount::KLDivergenceStats| {
+                [stats.max, stats.min, stats.moment1_nz, stats.moment2_nz]
+            };
+            let counts =
+                |stats: &recount::KLDivergenceStats| (stats.nz_count, stats.sequence_len, stats.skipped);
+            counts(one) == counts(other) && same_figures(&figures(one), &figures(other))
+        }),
+        _ => false,
+    }
+}
+
+fn must(holds: bool, what: impl FnOnce() -> String) -> Compared {
+    if holds {
+        Ok(())
+    } else {
+        Err(what())
+    }
+}
+
+fn differ(what: &str, recount: impl Debug, archive: impl Debug) -> String {
+    format!("{}: the recount has {:?}, the archive {:?}", what, recount, archive)
+}
+
+/// The archive's answer to a call of a list.
+fn play(archive: &mut Archive, call: &Call, fill: u8) -> Told<Answer> {
+    Ok(match call {
+        Call::Open { window, book_len, queue_len } => {
+            Answer::Changed(archive.open(*window, (*book_len, *queue_len), fill)?)
+        }
+        Call::Add { path } => Answer::Changed(archive.add_path(path)?),
+        Call::LendTables(tables) => {
+            archive.lend_tables(tables);
+            Answer::Lent
+        }
+        Call::LendPriors(priors) => {
+            archive.lend_priors(priors);
+            Answer::Lent
+        }
+        Call::ProbVector { node, output } => {
+            let (answer, left) = archive.prob_vector(*node, output)?;
+            Answer::Vector(answer, left)
+        }
+        Call::EvidenceProbVector { node, output } => {
+            let (answer, left) = archive.evidence_prob_vector(*node, output)?;
+            Answer::Vector(answer, left)
+        }
+        Call::PosteriorKlDivergence { node } => Answer::Divergence(archive.posterior_kl_divergence(*node)?),
+        Call::AllNodeKl { output } => {
+            let (answer, left) = archive.all_node_kl(output)?;
+            Answer::List(answer, left)
+        }
+        Call::KlDivStats => Answer::Stats(archive.kl_div_stats()?),
+    })
+}
+
+fn count(answer: &Answer, tally: &mut Tally) {
+    match answer {
+        Answer::Lent => {}
+        Answer::Changed(result) => tally.result(result),
+        Answer::Vector(result, _) => tally.result(result),
+        Answer::Divergence(result) => tally.result(result),
+        Answer::List(result, _) => tally.result(result),
+        Answer::Stats(result) => tally.result(result),
+    }
+}
+
+/// A call list.
+pub fn list(archive: &mut Archive, list: &CallList, tally: &mut Tally) -> Compared {
+    tally.lists += 1;
+    let mut history = Player::new(History::default());
+    let mut beside = Beside::default();
+    let mut image: Option<Held> = None;
+    archive.lend_tables(&Tables::default());
+    archive.lend_priors(&PriorBytes::default());
+    for (index, call) in list.calls.iter().enumerate() {
+        one_call(archive, call, list.fill, &mut history, &mut image, tally)
+            .and_then(|answer| beside.hold(call, &answer, &history, tally))
+            .map_err(|text| format!("call {} of {:#?}\n{}", index, list, text))?;
+    }
+    Ok(())
+}
+
+/// Gives the archive's answer; `image` is what state, book and queue must be.
+fn one_call(
+    archive: &mut Archive,
+    call: &Call,
+    fill: u8,
+    history: &mut Player<History>,
+    image: &mut Option<Held>,
+    tally: &mut Tally,
+) -> Told<Answer> {
+    let answer = play(archive, call, fill)?;
+    let recounted = history.play(call);
+    count(&recounted, tally);
+    must(same_answer(&recounted, &answer), || differ("answer", &recounted, &answer))?;
+    if let Answer::Changed(Ok(())) = answer {
+        let side = &history.side;
+        *image = Some(Held { state: side.state(), book: side.book(), queue: side.queue() });
+    }
+    if let Some(image) = image {
+        must(archive.holds(image), || differ("state, book and queue", &*image, archive.held()))?;
+    }
+    let lent = archive.lends_tables(&history.tables) && archive.lends_priors(&history.priors);
+    must(lent, || "the archive changed lent tables or priors".to_string())?;
+    Ok(answer)
+}
+
+/// An add and all readings on memory that others wrote.
+pub fn altered(
+    archive: &mut Archive,
+    add: &AlteredAdd,
+    (tables, priors, output): (&Tables, &PriorBytes, &Places),
+    tally: &mut Tally,
+) -> Compared {
+    let held = Held { state: add.state, book: add.book.clone(), queue: add.queue.clone() };
+    archive.hold(&held);
+    archive.lend_tables(tables);
+    archive.lend_priors(priors);
+    for call in readings_of(add, output) {
+        let answer = play(archive, &call, 0)?;
+        let recounted = read_altered(add, &call, tables, priors);
+        count(&recounted, tally);
+        must(same_answer(&recounted, &answer), || {
+            format!("{:?} on {:?}\n{}", call, add, differ("answer", &recounted, &answer))
+        })?;
+        must(archive.holds(&held), || format!("{:?} changed {:?}", call, add))?;
+        let lent = archive.lends_tables(tables) && archive.lends_priors(priors);
+        must(lent, || format!("{:?} changed what it was lent", call))?;
+    }
+    add_altered(archive, add, held, tally)
+}
+
+fn add_altered(archive: &mut Archive, add: &AlteredAdd, mut held: Held, tally: &mut Tally) -> Compared {
+    let answer = archive.add_path(&add.path)?;
+    let recounted = memory::add_path(add.state, &mut held.book, &mut held.queue, &add.path);
+    tally.altered += 1;
+    tally.result(&recounted);
+    if let Ok(state) = recounted {
+        held.state = state;
+    }
+    let recounted = recounted.map(|_| ());
+    must(recounted == answer, || format!("{:?}\n{}", add, differ("answer", recounted, answer)))?;
+    must(archive.holds(&held), || {
+        format!("{:?}\n{}", add, differ("state, book and queue", &held, archive.held()))
+    })
+}
+
+/// All five readings, of a node that the book begins with and of one that it may lack.
+fn readings_of(add: &AlteredAdd, output: &Places) -> Vec<Call> {
+    let first = add.book.get(..8).map(Address::read).unwrap_or_default();
+    let mut calls = vec![Call::AllNodeKl { output: output.clone() }, Call::KlDivStats];
+    for node in [first, Address::new(0, 1)] {
+        calls.push(Call::ProbVector { node, output: output.clone() });
+        calls.push(Call::EvidenceProbVector { node, output: output.clone() });
+        calls.push(Call::PosteriorKlDivergence { node });
+    }
+    calls
+}
+
+/// The recount's answer to a reading of altered memory.
+fn read_altered(add: &AlteredAdd, call: &Call, tables: &Tables, priors: &PriorBytes) -> Answer {
+    let lent = Memory { state: add.state, book: &add.book, queue: &add.queue };
+    let (tables, priors) = (tables.lent(), priors.lent());
+    match call {
+        Call::ProbVector { node, output } => {
+            let mut output = output.clone();
+            Answer::Vector(prob_vector(&lent, priors, *node, &mut output.lent()), output)
+        }
+        Call::EvidenceProbVector { node, output } => {
+            let mut output = output.clone();
+            Answer::Vector(evidence_prob_vector(&lent, *node, &mut output.lent()), output)
+        }
+        Call::PosteriorKlDivergence { node } => {
+            Answer::Divergence(posterior_kl_divergence(&lent, tables, priors, *node))
+        }
+        Call::AllNodeKl { output } => {
+            let mut output = output.clone();
+            Answer::List(all_node_kl(&lent, tables, priors, &mut output.lent()), output)
+        }
+        Call::KlDivStats => Answer::Stats(kl_div_stats(&lent, tables, priors)),
+        _ => unreachable!("only readings are asked"),
+    }
+}
+
+/// A training.
+pub fn training(archive: &mut Archive, training: &Training, tally: &mut Tally) -> Compared {
+    let (answer, left) = archive.train(training)?;
+    let mut ours = training.clone();
+    let recounted = ours.run();
+    tally.result(&recounted);
+    must(recounted == answer, || format!("{:#?}\n{}", training, differ("answer", recounted, answer)))?;
+    let same = ours.book == left.book && ours.knots == left.knots && same_figures(&ours.values, &left.values);
+    must(same, || format!("{:#?}\n{}", training, differ("book, knots and values", &ours, &left)))?;
+    goko::hold_training(training, &left, answer, tally)
+}
+
+/// A baseline, asked for its lengths.
+pub fn stats(archive: &mut Archive, asked: &StatsAsked, tally: &mut Tally) -> Compared {
+    for length in &asked.lengths {
+        let answer = archive.stats(asked.sequences, &asked.knots, &asked.values, *length)?;
+        let recounted = recount::stats(asked.sequences, &asked.knots, &asked.values, *length);
+        tally.result(&recounted);
+        let recounted = recounted.map(|stats| stats.ten_values());
+        let same = same_result(&recounted, &answer, |one, other| same_figures(one, other));
+        must(same, || format!("{:?} at {}\n{}", asked, length, differ("answer", recounted, answer)))?;
+        goko::hold_stats(asked, *length, answer, tally)?;
+    }
+    Ok(())
+}
+
+/// Tables by themselves.
+pub fn tables(archive: &mut Archive, tables: &Tables, tally: &mut Tally) -> Compared {
+    archive.lend_tables(tables);
+    let answer = archive.check_tables()?;
+    let recounted = check_tables(tables.lent());
+    tally.result(&recounted);
+    must(recounted == answer, || differ("tables", recounted, answer))?;
+    must(archive.lends_tables(tables), || "the archive changed lent tables".to_string())
+}
+
+/// Priors by themselves.
+pub fn priors(archive: &mut Archive, priors: &PriorBytes, tally: &mut Tally) -> Compared {
+    archive.lend_priors(priors);
+    let answer = archive.check_priors()?;
+    let recounted = check_priors(priors.lent()).map(|_| ());
+    tally.result(&recounted);
+    must(recounted == answer, || format!("{:?}\n{}", priors, differ("priors", recounted, answer)))?;
+    must(archive.lends_priors(priors), || "the archive changed lent priors".to_string())
+}

@@ -1,0 +1,112 @@
+//! Every short list, the recorded sample, and cases at the limits: tables of 1, 2, 1,048,576 and 1,048,577 entries and a U at the last
+//! index, priors of the most records and one more, chains of 63 to 65, books and queues at their
+//! largest sizes, long windows, 1,024 knots and one more.
+
+use crate::archive::Archive;
+use crate::check;
+use cases::baselines::Training;
+use cases::calls::{Call, CallList, Places, PriorBytes, Tables};
+use cases::lists::{call_list, Shape};
+use cases::rng::Rng;
+use cases::{exhaustive, priors, sample, tables};
+use compare::{Compared, Tally};
+use recount::limits::{ENTRY_BYTES, KNOT_VALUES, MAX_CHILDREN, MAX_KNOTS, MAX_NODES, PLACE_BYTES};
+use recount::{path_bytes, Address};
+
+/// All of them.
+pub fn all(archive: &mut Archive, tally: &mut Tally) -> Compared {
+    for list in sample::call_lists().into_iter().chain(sample::large_lists()).chain(sample::reading_lists()) {
+        check::list(archive, &list, tally)?;
+    }
+    sample::trainings().iter().try_for_each(|training| check::training(archive, training, tally))?;
+    sample::stats_asked().iter().try_for_each(|asked| check::stats(archive, asked, tally))?;
+    sample::table_cases().iter().try_for_each(|tables| check::tables(archive, tables, tally))?;
+    sample::priors_cases().iter().try_for_each(|case| check::priors(archive, &case.priors, tally))?;
+    short_lists(archive, tally)?;
+    table_lengths(archive, tally)?;
+    prior_sizes(archive, tally)?;
+    knots(archive, tally)?;
+    [1_023, 1_024].iter().try_for_each(|window| {
+        check::list(archive, &call_list(&mut Rng::new(u64::from(*window)), &Shape::long(*window)), tally)
+    })
+}
+
+fn short_lists(archive: &mut Archive, tally: &mut Tally) -> Compared {
+    let mut result = Ok(());
+    exhaustive::each_short_list(|list| {
+        if result.is_ok() {
+            result = check::list(archive, list, tally);
+        }
+    });
+    result
+}
+
+const NODE: Address = Address::new(1, 7);
+const CHILD: Address = Address::new(0, 9);
+
+fn record(address: Address, count: u32, link: u32) -> Vec<u8> {
+    [&address.bytes()[..], &count.to_le_bytes(), &link.to_le_bytes()].concat()
+}
+
+/// Readings with tables of each length, and priors whose U is the last index, or one past it.
+fn table_lengths(archive: &mut Archive, tally: &mut Tally) -> Compared {
+    for length in [1, 2, 1_048_576, 1_048_577] {
+        let lent = tables::gamma(length - 1);
+        check::tables(archive, &lent, tally)?;
+        for total in [1, length as u32 - 1, length as u32] {
+            let singleton = total.max(3) - 2;
+            let priors = PriorBytes { nodes: record(NODE, singleton, 1), children: record(CHILD, 1, 0) };
+            let output = || Places { addresses: vec![0x11; 16], figures: vec![-1.0; 2] };
+            let calls = vec![
+                Call::Open { window: 1, book_len: 4 * ENTRY_BYTES, queue_len: PLACE_BYTES },
+                Call::LendTables(lent.clone()),
+                Call::LendPriors(priors),
+                Call::Add { path: path_bytes(&[NODE, CHILD]) },
+                Call::PosteriorKlDivergence { node: NODE },
+                Call::AllNodeKl { output: output() },
+                Call::KlDivStats,
+                Call::ProbVector { node: NODE, output: output() },
+            ];
+            check::list(archive, &CallList { fill: 0xff, calls }, tally)?;
+        }
+    }
+    let unequal = Tables { g: vec![0.0; 1_048_576], d: vec![0.0; 1_048_575] };
+    check::tables(archive, &unequal, tally)
+}
+
+/// The most records and one more, all in one book of priors.
+fn prior_sizes(archive: &mut Archive, tally: &mut Tally) -> Compared {
+    for (nodes, children) in
+        [(MAX_NODES, MAX_CHILDREN), (MAX_NODES + 1, MAX_CHILDREN), (MAX_NODES, MAX_CHILDREN + 1)]
+    {
+        let node = |index: usize| record(Address::new(3, index as u32), 1, (index % 9) as u32);
+        let child = |index: usize| record(Address::new(2, index as u32), 1, 0);
+        let lent = PriorBytes {
+            nodes: (0..nodes).flat_map(node).collect(),
+            children: (0..children).flat_map(child).collect(),
+        };
+        check::priors(archive, &lent, tally)?;
+    }
+    [63, 64, 65].iter().try_for_each(|length| check::priors(archive, &priors::long_chain(*length), tally))
+}
+
+/// As many knots as there may be, and one more.
+fn knots(archive: &mut Archive, tally: &mut Tally) -> Compared {
+    for paths in [MAX_KNOTS, MAX_KNOTS + 1] {
+        let mut place = [&2_u32.to_le_bytes()[..], &path_bytes(&[NODE, CHILD])].concat();
+        place.resize(PLACE_BYTES, 0x3c);
+        let training = Training {
+            tables: tables::gamma(2_000),
+            priors: PriorBytes { nodes: record(NODE, 2, 1), children: record(CHILD, 3, 0) },
+            book: vec![0xff; 3 * ENTRY_BYTES],
+            sequences: 2,
+            paths: paths as u32,
+            rate: 1,
+            places: place.repeat(2 * paths),
+            knots: vec![9; paths],
+            values: vec![9.0; KNOT_VALUES * paths],
+        };
+        check::training(archive, &training, tally)?;
+    }
+    Ok(())
+}
