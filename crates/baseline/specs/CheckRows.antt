@@ -29,7 +29,8 @@ use Rattle.divergence.specs.Probability as Probability
 use Rattle.divergence.specs.Readings.{Reading, refused, nothing, answered, Divergences, Statistics, formRefusal, nodesOf, sequenceLen, withPrior, klReading, allReading, statsReading, probReading, evidenceReading}
 use Rattle.divergence.specs.declared.statistics.KLDivergenceStats.{KLDivergenceStats}
 use Rattle.baseline.specs.declared.figures.KLDivergenceBaselineStats.{KLDivergenceBaselineStats}
-use Rattle.baseline.specs.Sums.{noSums, added, sumsOver, valuesOf, sumsAt}
+use Rattle.baseline.specs.Sums.{added, sumsAt, putSums}
+use Rattle.baseline.specs.Training.{addAll, addRecords, started}
 use Rattle.baseline.specs.Figures.{toMeanVar, interpolated}
 use Rattle.baseline.specs.Stats.{notAbove, knotFigures, lineFigures, figuresAfter, figuresAt, risesAt, rising, baselineFits, pastOneKnot, statsRefusal, baselineReading}
 
@@ -166,9 +167,9 @@ firstAdd entries = let m = tracker entries [] in addNumber (m .state) (m .book) 
 abbrev pub maximum : ℕ → KLDivergenceStats
 maximum x = record { max = flt x; min = zero64; «nz_count» = 0; «moment1_nz» = zero64; «moment2_nz» = zero64; «sequence_len» = 1 }
 
--- a knot's values over these maxima, one of each sequence
+-- a knot's values after training on sequences of one record each
 abbrev pub knotOver : List KLDivergenceStats → List Float
-knotOver records = valuesOf (sumsOver noSums records)
+knotOver records = addAll (map (λ (r : KLDivergenceStats). r ∷ []) records) (started 1 [])
 
 -- one sequence, with the means 8 at 1 and 10 at 11
 abbrev pub twoKnots : ℕ → Reading KLDivergenceBaselineStats
@@ -208,5 +209,5 @@ rows =
     ∷ []
 
 pub rows-hold : T (every rows)
-unfolding rows le word store lift rank change look Tables.entriesFit Tables.entryFits Tables.lengthsFit Tables.tablesRefusal Priors.ascends Priors.ascendsAfter Priors.chain Priors.chainAscends Priors.chainFits Priors.chainOf Priors.countFits Priors.countSum Priors.findRecord Priors.firstLinkFits Priors.nextLinkFits Priors.priorOf Priors.priorsRefusal Priors.recordAt Priors.records Priors.total Priors.totalFits Priors.wholeRecords keyOf endKey childKey nodeOf kindOf childOf Entries.bytesOf Entries.rowAt Entries.keyAt Entries.rowBytes Entries.rows stepsOf wholePath listedKeys countedKeys Form.bookFits Form.follows Form.formed Form.formedAfter Form.inForm Form.lengthsFit Form.plain Form.queueFits Form.stateFits changeAll addRows Calls.addBook Calls.addNumber Calls.addQueue Calls.addState Calls.bookAfter Calls.leaving Calls.openBook Calls.openNumber Calls.openQueue Calls.openState Calls.placeBytes Calls.queueWith Calls.rowsAfter Calls.stateAfter bookStep runs spread listedNodes evidenceOf Divergence.childTerms Divergence.closed Divergence.divergence Divergence.endingTerm Divergence.lacksChild Divergence.noLess Divergence.nodeDivergence Divergence.term Walks.counted Walks.noted Walks.statsOver Walks.walk Probability.evidenceProbVector Probability.posterior Probability.probVector Probability.withEvidence Probability.withTotal withPrior klReading allReading statsReading probReading evidenceReading baselineReading statsRefusal baselineFits pastOneKnot rising risesAt allBelow figuresAt figuresAfter notAbove knotFigures lineFigures toMeanVar interpolated sumsAt sumsOver added add sub mul div eq ofInt ofBits
+unfolding rows le word store lift rank change look Tables.entriesFit Tables.entryFits Tables.lengthsFit Tables.tablesRefusal Priors.ascends Priors.ascendsAfter Priors.chain Priors.chainAscends Priors.chainFits Priors.chainOf Priors.countFits Priors.countSum Priors.findRecord Priors.firstLinkFits Priors.nextLinkFits Priors.priorOf Priors.priorsRefusal Priors.recordAt Priors.records Priors.total Priors.totalFits Priors.wholeRecords keyOf endKey childKey nodeOf kindOf childOf Entries.bytesOf Entries.rowAt Entries.keyAt Entries.rowBytes Entries.rows stepsOf wholePath listedKeys countedKeys Form.bookFits Form.follows Form.formed Form.formedAfter Form.inForm Form.lengthsFit Form.plain Form.queueFits Form.stateFits changeAll addRows Calls.addBook Calls.addNumber Calls.addQueue Calls.addState Calls.bookAfter Calls.leaving Calls.openBook Calls.openNumber Calls.openQueue Calls.openState Calls.placeBytes Calls.queueWith Calls.rowsAfter Calls.stateAfter bookStep runs spread listedNodes evidenceOf Divergence.childTerms Divergence.closed Divergence.divergence Divergence.endingTerm Divergence.lacksChild Divergence.noLess Divergence.nodeDivergence Divergence.term Walks.counted Walks.noted Walks.statsOver Walks.walk Probability.evidenceProbVector Probability.posterior Probability.probVector Probability.withEvidence Probability.withTotal withPrior klReading allReading statsReading probReading evidenceReading baselineReading statsRefusal baselineFits pastOneKnot rising risesAt allBelow figuresAt figuresAfter notAbove knotFigures lineFigures toMeanVar interpolated sumsAt putSums addRecords addAll added add sub mul div eq ofInt ofBits
 rows-hold = tt

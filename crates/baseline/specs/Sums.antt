@@ -34,11 +34,6 @@ noPair = record { sum = zero64; squares = zero64 }
 abbrev pub noSums : KnotSums
 noSums = record { max = noPair; min = noPair; «nz_count» = noPair; «moment1_nz» = noPair; «moment2_nz» = noPair }
 
--- the records of a knot, in order of sequences
-unfoldable pub sumsOver : KnotSums → List KLDivergenceStats → KnotSums
-sumsOver s [] = s
-sumsOver s (r ∷ rs) = sumsOver (added s r) rs
-
 -- ---- ten values a knot: for maximum, minimum, number, sum and sum of squares in turn, the sum of the figure and then the sum of its squares
 
 abbrev pub pairValues : SumPair → List Float → List Float
