@@ -12,12 +12,13 @@ use Rattle.book.specs.Calls.{unlessRefused, openBook, openQueue, addStat
 use Rattle.book.specs.Recount.{occurrences, windowPart, listing}
 use Rattle.book.specs.Figures.{found, total, transitions, endings}
 use Rattle.book.specs.Claims.{BookCall, opening, add, runs, bookStep, Recount, openRefusal, addRefusal, restarted, joined, recountStep, image}
-use Rattle.book.specs.Corollaries.{acceptedSince, windowSince, NeverNine, Told, Corollary, OpeningStartsAfresh, RefusedOpeningLeavesAll, RefusedAddLeavesAll}
+use Rattle.book.specs.Corollaries.{acceptedSince, windowSince, NeverNine, Told, Corollary, OpeningStartsAfresh, RefusedOpeningLeavesAll, RefusedAddLeavesAll, FormReadsNoOther}
 use Rattle.book.proofs.Sums.{length-rows}
 use Rattle.book.proofs.Meaning.{look-ending, look-child, node-listed, child-listed-iff}
 use Rattle.book.proofs.BookImage.{length-image}
 use Rattle.book.proofs.Kept.{Kept}
 use Rattle.book.proofs.RefusalLaws.{open-number}
+use Rattle.book.proofs.FormLaws.{form-reads}
 use Rattle.book.proofs.FormImage.{rows-are}
 use Rattle.book.proofs.Claimed.{opened, claim-kept}
 
@@ -114,3 +115,8 @@ refused-opening-leaves-all m w book queue n e = (opened m (restarted 0 0 0) w bo
 pub refused-add-leaves-all : RefusedAddLeavesAll
 unfolding bookStep addState addBook addQueue
 refused-add-leaves-all m path n e = rw e
+
+-- ---- the form
+
+pub form-reads-no-other : FormReadsNoOther
+form-reads-no-other = form-reads

@@ -5,11 +5,15 @@ use mathlib.Core.Path.{_≡_}
 use mathlib.Core.Logic.{_↔_}
 use mathlib.Core.List.{List, [], _∷_, _++_}
 use mathlib.Core.Option.{some}
-use lib.ListN.{length}
+use lib.ListN.{length, take}
+use Rattle.priors.specs.Word.{word}
 use Rattle.priors.specs.Rows.{Row, look}
+use Rattle.book.specs.declared.trackers.Tracker.{Tracker}
+use Rattle.book.specs.Limits.{entrySize, placeSize}
 use Rattle.book.specs.Keys.{endKey, childKey}
 use Rattle.book.specs.Entries.{rows}
 use Rattle.book.specs.Path.{Steps, pathOf}
+use Rattle.book.specs.Form.{filled, inForm}
 use Rattle.book.specs.Calls.{zeros, unlessRefused, fresh, openNumber, openBook, openQueue, addNumber}
 use Rattle.book.specs.Recount.{occurrences, windowPart}
 use Rattle.book.specs.Figures.{All, total, transitions, endings, Listed, Somewhere}
@@ -83,3 +87,13 @@ abbrev pub RefusedAddLeavesAll : Type 0
 RefusedAddLeavesAll =
     (m : Machine) (path : List ℕ) (n : ℕ) → addNumber (m .state) (m .book) (m .queue) path ≡ suc n
     → bookStep m (add path) .1 ≡ m
+
+-- ---- the form
+
+-- it depends on the sizes, the used entries' bytes and the filled places' lengths, and on no other byte
+abbrev pub FormReadsNoOther : Type 0
+FormReadsNoOther =
+    (t : Tracker) (book book′ queue queue′ : List ℕ) → length book ≡ length book′ → length queue ≡ length queue′
+    → take (entrySize * t .used) book ≡ take (entrySize * t .used) book′
+    → ((place : ℕ) → place < filled t → word queue (placeSize * place) ≡ word queue′ (placeSize * place))
+    → inForm t book queue ≡ inForm t book′ queue′

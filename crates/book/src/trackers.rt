@@ -1,11 +1,13 @@
 // The state that stands beside the lent book and queue: it goes into a call by value and comes back in the answer.
 ghost use mathlib.Core.Path.{_≡_};
+ghost use mathlib.Core.Bool.{true};
 ghost use Prim.Native.Nat.{_*_, _≤_};
 ghost use lib.ListN.{length};
 ghost use Rattle.priors.specs.Rows.{keys, Ascends};
 ghost use Rattle.book.specs.Entries.{rows, Rewritten};
 ghost use Rattle.book.specs.Changes.{fadeAll, leftKeys};
 ghost use Rattle.book.specs.Figures.{inWindow};
+ghost use Rattle.book.specs.Form.{inForm};
 ghost use Rattle.book.specs.Calls.{openedNumber, openedState, addedNumber, addedState, openNumber, openState, openBook, openQueue, addNumber, addState, addBook, addQueue, nextPlace, leaving, queueWith, stateAfter, bookAfter, Ready, Leaves};
 use crate::form::book_fits;
 use crate::form::in_form;
@@ -73,6 +75,17 @@ impl Tracker {
         if !in_form(self, book, queue) {
             return Added::Refused(Refusal::Form, self);
         }
+        self.add_formed(book, queue, path)
+    }
+
+    // The same behind its form test.
+    pub fn add_formed(mut self, book: &mut [u8], queue: &mut [u8], path: &[u8]) -> Added
+        requires { ⌜ inForm self (now book) (now queue) ≡ true ⌝ }
+        ensures { λ r. ⌜ addedNumber r ≡ addNumber self (now (book .entry)) (now (queue .entry)) (now (path .entry)) ⌝ }
+        ensures { λ r. ⌜ addedState r ≡ addState self (now (book .entry)) (now (queue .entry)) (now (path .entry)) ⌝ }
+        ensures { λ r. ⌜ now (book .exit) ≡ addBook self (now (book .entry)) (now (queue .entry)) (now (path .entry)) ⌝ }
+        ensures { λ r. ⌜ now (queue .exit) ≡ addQueue self (now (book .entry)) (now (queue .entry)) (now (path .entry)) ⌝ }
+    {
         if !whole_path(path) {
             return Added::Refused(Refusal::PathLength, self);
         }
