@@ -12,3 +12,5 @@ pub mod CountLaws
 pub mod WorkLaws
 -- the claim about training:
 pub mod Claimed
+-- what a sequence's records are of:
+pub mod KnotRecords

@@ -66,7 +66,7 @@ module _ (rate : ℕ) (some : 1 ≤ rate) where
   grows-one true k = omega arith
   grows-one false k = omega arith
 
-  grows : (i n : ℕ) → i ≤ n → knotsBefore rate i ≤ knotsBefore rate n
+  pub grows : (i n : ℕ) → i ≤ n → knotsBefore rate i ≤ knotsBefore rate n
   unfolding knotsBefore
   grows zero zero h = omega arith
   grows (suc i) zero h = absurd (omega arith)

@@ -1,17 +1,17 @@
 -- Demand 3 for training. For each sequence there is a list of calls of the machine of the divergence's claim: an opening with window 0 on the lent book, an add for each
 -- path, and `kl_div_stats` after each sampled one. What the machine answers to them, told up to the first refusal, is what `train` takes for that sequence's records.
 -- Assumes nothing.
-use Prim.Native.Nat.{ℕ, zero, suc, _+_, _*_, _%_, _<_}
+use Prim.Native.Nat.{ℕ, zero, suc, _+_, _*_, _%_, _≤_, _<_}
 use mathlib.Core.Path.{_≡_}
 use mathlib.Core.Bool.{cond}
-use mathlib.Core.List.{List, [], _∷_}
+use mathlib.Core.List.{List, [], _∷_, map}
 use lib.Dec.{eqb}
 use lib.ListN.{length}
 use Rattle.book.specs.Figures.{All}
 use Rattle.book.specs.Claims.{opening, add, Machine, openRefusal, runs}
 use Rattle.divergence.specs.declared.statistics.KLDivergenceStats.{KLDivergenceStats}
 use Rattle.divergence.specs.Claims.{Call, change, read, klDivStats, Answer, changed, vector, kl, allKl, stats, step}
-use Rattle.baseline.specs.Training.{Lent, Input, Until, reached, andThen, unlessStopped, recorded, pathIn, sequenceRecords}
+use Rattle.baseline.specs.Training.{Lent, Input, Until, reached, andThen, unlessStopped, recorded, pathIn, sequenceRecords, knotLengths, knotsOf}
 
 -- m paths of a sequence, the first of which has the number i and lies in the place numbered first + i: each is added, and where i mod rate is 0 the statistics are read
 unfoldable pub callsFrom : Lent → ℕ → ℕ → ℕ → List Call
@@ -39,3 +39,9 @@ abbrev pub Claim : Type 0
 Claim =
     (x : Input) (book : List ℕ) (m : Machine) → openRefusal 0 (length book) 0 ≡ 0 → All (λ b. b < 256) (x .lent .sequences)
     → (q : ℕ) → recordsIn (runs step m (sequenceCalls x book q) .0) ≡ sequenceRecords x (length book) q
+
+-- a sequence that nothing stops has one record for each knot, in order: the knot of sequence length i + 1 gets the statistics of the first i + 1 paths
+abbrev pub RecordForEachKnot : Type 0
+RecordForEachKnot =
+    (x : Input) (bookSize q : ℕ) (rs : List KLDivergenceStats) → 1 ≤ x .lent .rate → sequenceRecords x bookSize q ≡ reached rs
+    → map (λ (r : KLDivergenceStats). r .«sequence_len») rs ≡ knotLengths (knotsOf x) (x .lent .rate)
