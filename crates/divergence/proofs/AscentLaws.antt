@@ -8,6 +8,7 @@ use mathlib.Core.List.{List, [], _∷_, _++_, map, flatMap}
 use Rattle.priors.specs.Rows.{Ascends}
 use Rattle.priors.specs.Address.{lift, rank}
 use Rattle.priors.proofs.Orders.{Side, below, same, above, side}
+use Rattle.priors.proofs.RowLaws.{ascends-from}
 use Rattle.book.specs.Keys.{keyOf, endKey, childKey}
 use Rattle.book.specs.Recount.{enterAll}
 use Rattle.book.proofs.ManyRows.{ascends-all, keys-touches}
@@ -61,10 +62,6 @@ same-members a (x ∷ xs) (y ∷ ys) p q f g = go (side x y) (same-members (suc 
         back k i = ⊎-elim (λ c. absurd (omega (arith, in-above (suc y) k ys (q .1) i))) (λ m. m) (in-cons k x xs (g k (in-tail k y ys i)))
 
 -- ---- the keys of nodes, node by node
-
-ascends-from : (a b : ℕ) (xs : List ℕ) → a ≤ b → Ascends b xs → Ascends a xs
-ascends-from a b [] l h = tt
-ascends-from a b (x ∷ xs) l h = (omega arith, h .1)
 
 -- a node's ending, then its children
 abbrev pub nodeKeys : (ℕ → List ℕ) → ℕ → List ℕ

@@ -17,6 +17,7 @@ use Rattle.priors.proofs.Orders.{Alike, alike, unlike, compared}
 use Rattle.priors.proofs.ByPlace.{Spot, end, before, here, later, spot, spot-lt}
 use Rattle.priors.proofs.Ranks.{rank-lt}
 use Rattle.priors.proofs.Tests.{both}
+use Rattle.priors.proofs.RowLaws.{ascends-from}
 use Rattle.book.specs.declared.entries.Found.{Found}
 use Rattle.book.specs.declared.entries.Found.the-variants.{At, Missing}
 use Rattle.book.specs.Keys.{noChild, endKey, keyOf, nodeOf, kindOf, childOf}
@@ -29,7 +30,6 @@ use Rattle.book.proofs.FormLaws.{formed-ascends}
 use Rattle.divergence.specs.Nodes.{Node, childRow, spread, listedNodes, evidenceOf}
 use Rattle.divergence.specs.Parts.{part, leading, evidenceAt}
 use Rattle.divergence.proofs.WalkLaws.{nodes-ending, nodes-child, front-ending, front-child, front-children, end-le}
-use Rattle.divergence.proofs.MergeLaws.{ascends-from}
 
 -- ---- what the form says of one entry
 

@@ -11,7 +11,7 @@ use Rattle.priors.specs.Rows.{Row, row, keys, Ascends, look, change}
 use Rattle.priors.specs.Priors.{recordAt, recordCount, chainOf, childrenOf}
 use Rattle.priors.proofs.ChainLaws.{next-small, chain-end, chain-step}
 use Rattle.priors.proofs.Orders.{compare-lt, compare-gt, compare-self}
-use Rattle.priors.proofs.RowLaws.{gained, length-change}
+use Rattle.priors.proofs.RowLaws.{ascends-from, gained, length-change}
 use Rattle.book.specs.Entries.{rowAt}
 use Rattle.book.proofs.EntryLaws.{length-rows}
 use Rattle.divergence.specs.declared.probabilities.Child.{Child}
@@ -22,11 +22,6 @@ use Rattle.divergence.specs.Merge.{childEntries, mergedFrom, Mergeable, 
 use Rattle.divergence.proofs.NodeLaws.{part-none, part-cons}
 
 -- ---- rows
-
--- a lower bound may be lowered
-pub ascends-from : (a b : ℕ) (ks : List ℕ) → a ≤ b → Ascends b ks → Ascends a ks
-ascends-from a b [] l h = tt
-ascends-from a b (k ∷ ks) l h = (omega arith, h .1)
 
 -- a row below all evidence stays in front
 pub row-below : (es : List Row) (p : Row) (ps : List Row) → Ascends (suc (p .key)) (keys es) → withEvidence es (p ∷ ps) ≡ p ∷ withEvidence es ps

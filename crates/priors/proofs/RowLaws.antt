@@ -18,6 +18,11 @@ gained none none = 0
 gained none (some c) = 1
 gained (some d) o = 0
 
+-- a lower bound may be lowered
+pub ascends-from : (a b : ℕ) (ks : List ℕ) → a ≤ b → Ascends b ks → Ascends a ks
+ascends-from a b [] l h = tt
+ascends-from a b (k ∷ ks) l h = (omega arith, h .1)
+
 module _ (new : Option ℕ) (step : ℕ → ℕ) (k : ℕ) where
   -- ---- what a look-up finds: for the key itself, and for any other
 
