@@ -1,6 +1,7 @@
 # Reads `objdump -dr` of the archive and prints, for each exported function, the bytes of stack that it can take at most: every push
 # and every `sub` on the stack pointer in a function counts, whichever way control goes, with the return address of each call, along
-# the deepest chain of calls. What the C library takes is not in it.
+# the deepest chain of calls. The last function of a chain may use the 128 bytes below its stack pointer as well (the red zone of the
+# x86-64 calling convention), so they count whether it does or not. What the C library takes is not in it.
 function number(digits,    i, value) {
     value = 0
     for (i = 1; i <= length(digits); i++) {
@@ -20,7 +21,7 @@ function deepest(name, chain,    callees, i, n, most, below) {
         print "stack: " name " calls itself" > "/dev/stderr"
         exit 1
     }
-    most = 0
+    most = RED_ZONE
     n = split(calls[name], callees, "\n")
     for (i = 1; i <= n; i++) {
         if (callees[i] != "" && callees[i] in own) {
@@ -31,6 +32,18 @@ function deepest(name, chain,    callees, i, n, most, below) {
         }
     }
     return 8 + own[name] + most
+}
+
+BEGIN {
+    RED_ZONE = 128
+}
+
+# A call that names its function has a relocation on the next line; one without goes back into its own function.
+call != "" {
+    if (!/R_X86_64_/) {
+        refuse(call)
+    }
+    call = ""
 }
 
 /^[0-9a-f]+ <.*>:$/ {
@@ -48,6 +61,7 @@ function deepest(name, chain,    callees, i, n, most, below) {
 /[ \t]sub +\$0x[0-9a-f]+,%rsp/ {
     match($0, /0x[0-9a-f]+,%rsp/)
     own[name] += number(substr($0, RSTART + 2, RLENGTH - 7))
+    next
 }
 
 # What is given back: an `add` of at most eight digits.
@@ -56,8 +70,12 @@ function deepest(name, chain,    callees, i, n, most, below) {
 }
 
 # A stack pointer that is set in another way, and a call that names no function, are not measured.
-(/[ \t](and|lea|mov|add) .*,%rsp/ || /[ \t]call +\*/) {
+(/,%rsp$/ || /[ \t](enter|leave)/ || /[ \t]call +\*/) {
     refuse($0)
+}
+
+/[ \t]call / {
+    call = $0
 }
 
 # A jump by a table of the function's own, as a match compiles to, stays in the function.
@@ -80,6 +98,9 @@ function deepest(name, chain,    callees, i, n, most, below) {
 END {
     if (refused) {
         exit 1
+    }
+    if (call != "") {
+        refuse(call)
     }
     for (name in own) {
         if (name ~ /^teakpool_/) {

@@ -1,5 +1,5 @@
 #!/usr/bin/env bash
-# Builds examples/c/drift.c against include/teakpool.h and the archive, runs it, and measures the stack that the header states.
+# Builds drift.c and refusals.c against include/teakpool.h and the archive, runs them, and measures the stack that the header states.
 set -euo pipefail
 cd "$(dirname "$0")/../.."
 
@@ -11,8 +11,10 @@ fi
 work=$(mktemp -d)
 trap 'rm -rf "$work"' EXIT
 
-cc -std=c11 -O1 -Wall -Wextra -Werror -Iinclude examples/c/drift.c "$archive" -o "$work/drift"
-"$work/drift"
+for program in drift refusals; do
+    cc -std=c11 -O1 -Wall -Wextra -Werror -Iinclude "examples/c/$program.c" "$archive" -o "$work/$program"
+    "$work/$program"
+done
 
 # The README's own lines compile too.
 sed -n '/^```c$/,/^```$/p' README.md | sed '/^```/d' >"$work/readme.c"
@@ -27,7 +29,8 @@ if [ "$taken" -gt "$stated" ]; then
     exit 1
 fi
 
-# Every exported function is declared in the header, and every declared one exported.
+# Every exported function is declared in the header, and every declared one exported; the archive wants memset alone.
 nm "$archive" | sed -n 's/^.* T \(teakpool_.*\)$/\1/p' | sort >"$work/exported"
 sed -n 's/^uint32_t \(teakpool_[a-z_]*\)(.*$/\1/p' include/teakpool.h | sort >"$work/declared"
 diff "$work/exported" "$work/declared"
+nm "$archive" | sed -n 's/^ *U \(.*\)$/\1/p' | diff - <(echo memset)

@@ -1,0 +1,559 @@
+/* Meets every refusal from 1 to 18 through the C library, and the limits of teakpool.h from both sides. */
+#include "teakpool.h"
+#include "bytes.h"
+
+#include <math.h>
+#include <string.h>
+
+#define ENTRIES 8u
+#define EACH(i, rows) (size_t i = 0; i < sizeof rows / sizeof rows[0]; i++)
+
+/* The numbers that were returned so far. */
+static int met[TEAKPOOL_ONE_KNOT + 1];
+
+static void expect_number(uint32_t code, uint32_t number, const char *what)
+{
+    if (code <= TEAKPOOL_ONE_KNOT) {
+        met[code] = 1;
+    }
+    if (code != number) {
+        printf("not as expected: %s: %u, and not %u\n", what, code, number);
+        failures++;
+    }
+}
+
+static int is_filled(const void *bytes, size_t length, int byte)
+{
+    const uint8_t *at = bytes;
+    for (size_t i = 0; i < length; i++) {
+        if (at[i] != byte) {
+            return 0;
+        }
+    }
+    return 1;
+}
+
+/* Tables of zeros. G and D are only read, so they may be the same memory. */
+static double table[TEAKPOOL_MAX_TABLE + 1];
+
+/* Priors of (0,9), without children, and of (1,7), whose chain is (0,7), (0,9). The third child record is a chain of its own. */
+static uint8_t nodes[2 * TEAKPOOL_RECORD_SIZE];
+static uint8_t children[3 * TEAKPOOL_RECORD_SIZE];
+
+/* A tracker of window 1 to which (1,7), (0,9) is added. Its entries: the ending of (0,9), the ending of (1,7), (0,9) under (1,7). */
+static uint32_t state[3];
+static uint8_t book[ENTRIES * TEAKPOOL_ENTRY_SIZE];
+static uint8_t queue[TEAKPOOL_PLACE_SIZE];
+static uint8_t path[2 * TEAKPOOL_STEP_SIZE];
+
+/* Outputs. */
+static uint8_t addresses[2 * TEAKPOOL_STEP_SIZE];
+static double figures[2];
+static uint32_t counts[2], places;
+static double ending;
+static int32_t node_scale;
+static uint32_t node_point;
+
+/* What trainings are lent. Every place of `sequences` has the length 0, so the first path stops a training with 10. */
+static uint8_t sequences[(TEAKPOOL_MAX_SEQUENCE_PATHS + 1) * TEAKPOOL_PLACE_SIZE];
+static uint8_t one_path[TEAKPOOL_PLACE_SIZE];
+static uint32_t knots[TEAKPOOL_MAX_KNOTS + 1];
+static double values[(TEAKPOOL_MAX_KNOTS + 1) * TEAKPOOL_KNOT_VALUES];
+
+/* Memory at the limits and a step past them. */
+static uint8_t large_nodes[(TEAKPOOL_MAX_NODES + 1) * TEAKPOOL_RECORD_SIZE];
+static uint8_t large_children[(TEAKPOOL_MAX_CHILDREN + 1) * TEAKPOOL_RECORD_SIZE];
+static uint8_t large_book[(TEAKPOOL_MAX_ENTRIES + 1) * TEAKPOOL_ENTRY_SIZE];
+static uint8_t large_queue[TEAKPOOL_MAX_WINDOW * TEAKPOOL_PLACE_SIZE];
+
+static void lend_priors(void)
+{
+    put_record(nodes, 0, 9, 1, 0);
+    put_record(nodes + 16, 1, 7, 1, 1);
+    put_record(children, 0, 7, 2, 2);
+    put_record(children + 16, 0, 9, 3, 0);
+    put_record(children + 32, 0, 7, 2, 0);
+}
+
+static void open_and_add(void)
+{
+    put_address(path, 1, 7);
+    put_address(path + 8, 0, 9);
+    expect_number(teakpool_open(1, book, sizeof book, queue, sizeof queue, state), TEAKPOOL_DONE, "an opening");
+    expect_number(teakpool_add_path(state, book, sizeof book, queue, sizeof queue, path, sizeof path), TEAKPOOL_DONE, "an add");
+}
+
+/* ---- 1 and 2 */
+
+static void table_lengths(void)
+{
+    static const struct {
+        size_t g_length, d_length;
+        uint32_t number;
+        const char *what;
+    } rows[] = {
+        {1, 1, TEAKPOOL_TABLE_LENGTHS, "tables of one entry"},
+        {2, 2, TEAKPOOL_DONE, "tables of two entries"},
+        {2, 3, TEAKPOOL_TABLE_LENGTHS, "tables of two lengths"},
+        {TEAKPOOL_MAX_TABLE, TEAKPOOL_MAX_TABLE, TEAKPOOL_DONE, "the longest tables"},
+        {TEAKPOOL_MAX_TABLE + 1, TEAKPOOL_MAX_TABLE + 1, TEAKPOOL_TABLE_LENGTHS, "tables past the longest"},
+    };
+    for EACH(i, rows) {
+        expect_number(teakpool_check_tables(table, rows[i].g_length, table, rows[i].d_length), rows[i].number, rows[i].what);
+    }
+}
+
+static void table_entries(void)
+{
+    static const struct {
+        double entries[2];
+        uint32_t number;
+        const char *what;
+    } rows[] = {
+        {{NAN, 0.0}, TEAKPOOL_DONE, "a NaN at index 0, which is not read"},
+        {{0.0, NAN}, TEAKPOOL_TABLE_ENTRY, "a NaN at index 1"},
+        {{0.0, 1099511627776.0}, TEAKPOOL_DONE, "an entry of 2^40"},
+        {{0.0, 1099511627777.0}, TEAKPOOL_TABLE_ENTRY, "an entry past 2^40"},
+        {{0.0, -1099511627776.0}, TEAKPOOL_DONE, "an entry of -2^40"},
+        {{0.0, -1099511627777.0}, TEAKPOOL_TABLE_ENTRY, "an entry below -2^40"},
+    };
+    for EACH(i, rows) {
+        expect_number(teakpool_check_tables(rows[i].entries, 2, table, 2), rows[i].number, rows[i].what);
+        expect_number(teakpool_check_tables(table, 2, rows[i].entries, 2), rows[i].number, rows[i].what);
+    }
+}
+
+/* ---- 3 to 7 */
+
+static void prior_records(void)
+{
+    static const struct {
+        uint8_t *at;
+        uint32_t word, number;
+        const char *what;
+    } rows[] = {
+        {nodes, 0xffffffffu, TEAKPOOL_DONE, "a first node of scale -1"},
+        {nodes, 1, TEAKPOOL_NODE_ORDER, "nodes that do not ascend"},
+        {nodes + 28, 4, TEAKPOOL_LINKS, "a first link past the last record"},
+        {children + 12, 1, TEAKPOOL_LINKS, "a next link that does not rise"},
+        {children + 28, 4, TEAKPOOL_LINKS, "a next link past the last record"},
+        {children + 44, 3, TEAKPOOL_LINKS, "a next link that does not rise, in a record out of reach"},
+        {children + 4, 9, TEAKPOOL_CHAIN_ORDER, "a chain that does not ascend"},
+        {children + 8, 0, TEAKPOOL_ZERO_PRIOR, "a child count of 0"},
+        {children + 40, 0, TEAKPOOL_ZERO_PRIOR, "a child count of 0, in a record out of reach"},
+        {nodes + 8, 0, TEAKPOOL_ZERO_PRIOR, "a node total of 0"},
+    };
+    expect_number(teakpool_check_priors(nodes, sizeof nodes, children, sizeof children), TEAKPOOL_DONE, "priors");
+    for EACH(i, rows) {
+        put_word(rows[i].at, rows[i].word);
+        expect_number(teakpool_check_priors(nodes, sizeof nodes, children, sizeof children), rows[i].number, rows[i].what);
+        lend_priors();
+    }
+}
+
+static void prior_sizes(void)
+{
+    static const struct {
+        size_t nodes_length, children_length;
+        uint32_t number;
+        const char *what;
+    } rows[] = {
+        {0, 0, TEAKPOOL_DONE, "no priors"},
+        {15, 0, TEAKPOOL_PRIOR_SIZES, "a part of a node record"},
+        {0, 17, TEAKPOOL_PRIOR_SIZES, "a part of a child record"},
+        {TEAKPOOL_MAX_NODES * 16, TEAKPOOL_MAX_CHILDREN * 16, TEAKPOOL_DONE, "the most records"},
+        {(TEAKPOOL_MAX_NODES + 1) * 16, 0, TEAKPOOL_PRIOR_SIZES, "a node record too many"},
+        {0, (TEAKPOOL_MAX_CHILDREN + 1) * 16, TEAKPOOL_PRIOR_SIZES, "a child record too many"},
+    };
+    for (uint32_t i = 0; i <= TEAKPOOL_MAX_NODES; i++) {
+        put_record(large_nodes + 16 * i, 0, i, 1, 0);
+    }
+    for (uint32_t i = 0; i <= TEAKPOOL_MAX_CHILDREN; i++) {
+        put_record(large_children + 16 * i, 0, i, 1, 0);
+    }
+    for EACH(i, rows) {
+        expect_number(teakpool_check_priors(large_nodes, rows[i].nodes_length, large_children, rows[i].children_length),
+                      rows[i].number, rows[i].what);
+    }
+}
+
+/* One chain of 65 records: from its second record on it has 64. */
+static void prior_chains(void)
+{
+    uint8_t node[16];
+    size_t length = (TEAKPOOL_MAX_CHAIN + 1) * 16;
+    for (uint32_t i = 0; i <= TEAKPOOL_MAX_CHAIN; i++) {
+        put_record(large_children + 16 * i, 0, i, 1, i == TEAKPOOL_MAX_CHAIN ? 0 : i + 2);
+    }
+    put_record(node, 1, 7, 0, 2);
+    expect_number(teakpool_check_priors(node, sizeof node, large_children, length), TEAKPOOL_DONE, "the longest chain");
+    put_record(node, 1, 7, 0, 1);
+    expect_number(teakpool_check_priors(node, sizeof node, large_children, length), TEAKPOOL_LINKS, "a chain past the longest");
+}
+
+/* ---- 8 to 12 */
+
+static void openings(void)
+{
+    static const struct {
+        uint32_t window;
+        size_t book_length, queue_length;
+        uint32_t number;
+        const char *what;
+    } rows[] = {
+        {0, 24, 0, TEAKPOOL_DONE, "the least book"},
+        {0, 0, 0, TEAKPOOL_FORM, "an empty book"},
+        {0, 25, 0, TEAKPOOL_FORM, "a book of a byte too many"},
+        {1, 24, 515, TEAKPOOL_FORM, "a queue of a byte too few"},
+        {TEAKPOOL_MAX_WINDOW, TEAKPOOL_MAX_ENTRIES * 24, TEAKPOOL_MAX_WINDOW * 516, TEAKPOOL_DONE, "the largest opening"},
+        {TEAKPOOL_MAX_WINDOW, (TEAKPOOL_MAX_ENTRIES + 1) * 24, TEAKPOOL_MAX_WINDOW * 516, TEAKPOOL_FORM, "an entry too many"},
+        {TEAKPOOL_MAX_WINDOW + 1, 24, TEAKPOOL_MAX_WINDOW * 516, TEAKPOOL_WINDOW, "a window over 1,024: 8 before 9"},
+    };
+    for EACH(i, rows) {
+        uint32_t own[3] = {77, 77, 77};
+        uint32_t code = teakpool_open(rows[i].window, large_book, rows[i].book_length, large_queue, rows[i].queue_length, own);
+        expect_number(code, rows[i].number, rows[i].what);
+        expect(own[0] == (code == TEAKPOOL_DONE ? rows[i].window : 77), "an opening's state");
+    }
+}
+
+static void path_lengths(void)
+{
+    static const uint8_t zeros[(TEAKPOOL_MAX_STEPS + 1) * TEAKPOOL_STEP_SIZE];
+    static const struct {
+        size_t length;
+        uint32_t number;
+        const char *what;
+    } rows[] = {
+        {0, TEAKPOOL_PATH_LENGTH, "an empty path"},
+        {7, TEAKPOOL_PATH_LENGTH, "a part of a step"},
+        {8, TEAKPOOL_DONE, "a path of one step"},
+        {TEAKPOOL_MAX_STEPS * 8, TEAKPOOL_DONE, "the longest path"},
+        {(TEAKPOOL_MAX_STEPS + 1) * 8, TEAKPOOL_PATH_LENGTH, "a path past the longest"},
+    };
+    for EACH(i, rows) {
+        open_and_add();
+        expect_number(teakpool_add_path(state, book, sizeof book, queue, sizeof queue, zeros, rows[i].length), rows[i].number,
+                      rows[i].what);
+    }
+}
+
+static void full_trackers(void)
+{
+    open_and_add();
+    state[2] = TEAKPOOL_MAX_PATHS_ACCEPTED - 1;
+    expect_number(teakpool_add_path(state, book, sizeof book, queue, sizeof queue, path, sizeof path), TEAKPOOL_DONE,
+                  "the last path");
+    expect(state[2] == TEAKPOOL_MAX_PATHS_ACCEPTED, "all paths are accepted");
+    expect_number(teakpool_add_path(state, book, sizeof book, queue, sizeof queue, path, sizeof path), TEAKPOOL_PATHS_FULL,
+                  "a path past the last");
+    expect_number(teakpool_open(0, book, 48, queue, 0, state), TEAKPOOL_DONE, "a book of two entries");
+    expect_number(teakpool_add_path(state, book, 48, queue, 0, path, sizeof path), TEAKPOOL_BOOK_FULL, "it is too small");
+    expect(state[2] == 0 && is_filled(book, 48, 0), "a refused add leaves state and book");
+}
+
+/* Any reading tests the form. */
+static uint32_t read_form(size_t book_length, size_t queue_length)
+{
+    return teakpool_evidence_prob_vector(state, book, book_length, queue, queue_length, 1, 7, addresses, sizeof addresses, figures,
+                                         2, &places, &ending);
+}
+
+static void form_of_state(void)
+{
+    static const struct {
+        size_t index;
+        uint32_t value, number;
+        const char *what;
+    } rows[] = {
+        {0, 2, TEAKPOOL_FORM, "a window past the queue"},
+        {0, TEAKPOOL_MAX_WINDOW + 1, TEAKPOOL_FORM, "a window over 1,024 in a state: 9, and not 8"},
+        {1, ENTRIES + 1, TEAKPOOL_FORM, "more entries used than there are"},
+        {2, TEAKPOOL_MAX_PATHS_ACCEPTED, TEAKPOOL_DONE, "the most paths accepted"},
+        {2, TEAKPOOL_MAX_PATHS_ACCEPTED + 1, TEAKPOOL_FORM, "more paths accepted"},
+    };
+    for EACH(i, rows) {
+        open_and_add();
+        state[rows[i].index] = rows[i].value;
+        expect_number(read_form(sizeof book, sizeof queue), rows[i].number, rows[i].what);
+    }
+    open_and_add();
+    expect_number(read_form(sizeof book - 1, sizeof queue), TEAKPOOL_FORM, "a part of an entry");
+    expect_number(read_form(sizeof book, sizeof queue - 1), TEAKPOOL_FORM, "a queue that is too short");
+}
+
+static void form_of_bytes(void)
+{
+    static const struct {
+        uint8_t *at;
+        uint32_t word, number;
+        const char *what;
+    } rows[] = {
+        {book + 8, 1, TEAKPOOL_FORM, "a first entry that is no ending"},
+        {book + 56, 2, TEAKPOOL_FORM, "an entry of kind 2"},
+        {book + 12, 1, TEAKPOOL_FORM, "an ending's child address that is not zeros"},
+        {book, 1, TEAKPOOL_FORM, "entries that do not ascend"},
+        {book + 48, 2, TEAKPOOL_FORM, "a node that does not begin with its ending"},
+        {book + 68, TEAKPOOL_MAX_COUNT, TEAKPOOL_DONE, "a count of 2^30"},
+        {book + 68, TEAKPOOL_MAX_COUNT + 1, TEAKPOOL_FORM, "a count past 2^30"},
+        {book + 72, 5, TEAKPOOL_DONE, "a byte past the used entries"},
+        {queue, 0, TEAKPOOL_FORM, "a path of no steps in the queue"},
+        {queue, TEAKPOOL_MAX_STEPS, TEAKPOOL_DONE, "a path of 64 steps in the queue"},
+        {queue, TEAKPOOL_MAX_STEPS + 1, TEAKPOOL_FORM, "a path of 65 steps in the queue"},
+        {queue + 4, 5, TEAKPOOL_DONE, "a step in the queue"},
+    };
+    for EACH(i, rows) {
+        open_and_add();
+        put_word(rows[i].at, rows[i].word);
+        expect_number(read_form(sizeof book, sizeof queue), rows[i].number, rows[i].what);
+    }
+}
+
+/* ---- 13 */
+
+static uint32_t read_all(size_t table_length, size_t nodes_length, size_t addresses_length, size_t figures_length)
+{
+    return teakpool_all_node_kl(state, book, sizeof book, queue, sizeof queue, nodes, nodes_length, children, sizeof children, table,
+                                table_length, table, table_length, addresses, addresses_length, figures, figures_length, counts,
+                                &node_scale, &node_point);
+}
+
+static void short_outputs(void)
+{
+    static const struct {
+        size_t addresses_length, figures_length;
+        uint32_t number;
+        const char *what;
+    } rows[] = {
+        {16, 2, TEAKPOOL_DONE, "two places"},
+        {15, 2, TEAKPOOL_OUTPUT_SHORT, "an address too few"},
+        {16, 1, TEAKPOOL_OUTPUT_SHORT, "a figure too few"},
+    };
+    open_and_add();
+    for EACH(i, rows) {
+        size_t a = rows[i].addresses_length, f = rows[i].figures_length;
+        expect_number(read_all(8, sizeof nodes, a, f), rows[i].number, rows[i].what);
+        expect_number(teakpool_prob_vector(state, book, sizeof book, queue, sizeof queue, nodes, sizeof nodes, children,
+                                           sizeof children, 1, 7, addresses, a, figures, f, &places, &ending),
+                      rows[i].number, rows[i].what);
+        expect_number(teakpool_evidence_prob_vector(state, book, sizeof book, queue, sizeof queue, 1, 7, addresses, a - 8, figures,
+                                                    f - 1, &places, &ending),
+                      rows[i].number, rows[i].what);
+    }
+    expect_number(teakpool_evidence_prob_vector(state, book, sizeof book, queue, sizeof queue, 0, 7, addresses, 0, figures, 0,
+                                                &places, &ending),
+                  TEAKPOOL_NONE, "none needs no place");
+}
+
+/* Everything is wrong, and is put right from the lowest number on. */
+static void lowest_first(void)
+{
+    open_and_add();
+    state[1] = ENTRIES + 1;
+    expect_number(read_all(1, 15, 0, 0), TEAKPOOL_TABLE_LENGTHS, "tables first");
+    expect_number(read_all(2, 15, 0, 0), TEAKPOOL_PRIOR_SIZES, "then priors");
+    expect_number(read_all(2, sizeof nodes, 0, 0), TEAKPOOL_FORM, "then the form");
+    state[1] = 3;
+    expect_number(read_all(2, sizeof nodes, 0, 0), TEAKPOOL_OUTPUT_SHORT, "then the output");
+    expect_number(read_all(2, sizeof nodes, 16, 2), TEAKPOOL_PAST_TABLE, "then 14 and 15");
+    expect_number(read_all(8, sizeof nodes, 16, 2), TEAKPOOL_DONE, "then nothing");
+}
+
+/* ---- 10, 12, 13 and 16 of a training, and its order */
+
+struct lengths {
+    size_t book, knots, values;
+};
+
+static const struct lengths ample = {sizeof book, TEAKPOOL_MAX_KNOTS, TEAKPOOL_MAX_KNOTS * TEAKPOOL_KNOT_VALUES};
+
+static uint32_t train(size_t table_length, const uint8_t *lent, size_t length, uint32_t s, uint32_t n, uint32_t rate,
+                      struct lengths out)
+{
+    return teakpool_train(table, table_length, table, table_length, nodes, sizeof nodes, children, sizeof children, lent, length, s,
+                          n, rate, book, out.book, knots, out.knots, values, out.values, counts, &node_scale, &node_point);
+}
+
+static void fill_training(void)
+{
+    memset(book, 170, sizeof book);
+    memset(knots, 170, sizeof knots);
+    memset(values, 170, sizeof values);
+    counts[0] = 77;
+}
+
+/* What was lent beside the training's input is as it was, or, where it was stopped, all zero. */
+static void expect_left(int byte, const char *what)
+{
+    expect(is_filled(book, sizeof book, byte) && is_filled(knots, ample.knots * sizeof knots[0], byte) &&
+               is_filled(values, ample.values * sizeof values[0], byte) && counts[0] == 77,
+           what);
+}
+
+static void training_input(void)
+{
+    static const struct {
+        uint32_t s, n, rate;
+        size_t length;
+        uint32_t number;
+        const char *what;
+    } rows[] = {
+        {0, 0, 1, 0, TEAKPOOL_TRAINING_INPUT, "no sequences"},
+        {TEAKPOOL_MAX_SEQUENCES, 0, 1, 0, TEAKPOOL_DONE, "the most sequences, of no paths"},
+        {TEAKPOOL_MAX_SEQUENCES + 1, 0, 1, 0, TEAKPOOL_TRAINING_INPUT, "more sequences"},
+        {1, 0, 0, 0, TEAKPOOL_TRAINING_INPUT, "a rate of 0"},
+        {1, 1, 1, 515, TEAKPOOL_TRAINING_INPUT, "a byte too few"},
+        {1, 1, 1, 517, TEAKPOOL_TRAINING_INPUT, "a byte too many"},
+        {1, TEAKPOOL_MAX_SEQUENCE_PATHS, 64, TEAKPOOL_MAX_SEQUENCE_PATHS * 516, TEAKPOOL_PATH_LENGTH, "the most paths"},
+        {1, TEAKPOOL_MAX_SEQUENCE_PATHS + 1, 65, (TEAKPOOL_MAX_SEQUENCE_PATHS + 1) * 516, TEAKPOOL_TRAINING_INPUT, "more paths"},
+        {1, TEAKPOOL_MAX_KNOTS, 1, TEAKPOOL_MAX_KNOTS * 516, TEAKPOOL_PATH_LENGTH, "the most knots"},
+        {1, TEAKPOOL_MAX_KNOTS + 1, 1, (TEAKPOOL_MAX_KNOTS + 1) * 516, TEAKPOOL_TRAINING_INPUT, "more knots"},
+    };
+    for EACH(i, rows) {
+        fill_training();
+        uint32_t code = train(8, sequences, rows[i].length, rows[i].s, rows[i].n, rows[i].rate, ample);
+        expect_number(code, rows[i].number, rows[i].what);
+        if (code != TEAKPOOL_DONE) {
+            expect_left(code == TEAKPOOL_TRAINING_INPUT ? 170 : 0, "a training refused or stopped");
+        }
+    }
+}
+
+static void training_order(void)
+{
+    static const struct {
+        struct lengths out;
+        uint32_t rate, number;
+        const char *what;
+    } rows[] = {
+        {{0, 0, 0}, 0, TEAKPOOL_FORM, "an empty book: 9 before 16"},
+        {{24, 0, 0}, 0, TEAKPOOL_TRAINING_INPUT, "a rate of 0: 16 before 13"},
+        {{24, 0, 10}, 1, TEAKPOOL_OUTPUT_SHORT, "a knot too few"},
+        {{24, 1, 9}, 1, TEAKPOOL_OUTPUT_SHORT, "a value too few"},
+        {{48, 1, 10}, 1, TEAKPOOL_BOOK_FULL, "a book of two entries"},
+        {{72, 1, 10}, 1, TEAKPOOL_DONE, "a book of three entries"},
+    };
+    for EACH(i, rows) {
+        expect_number(train(8, one_path, sizeof one_path, 1, 1, rows[i].rate, rows[i].out), rows[i].number, rows[i].what);
+    }
+}
+
+/* ---- 14 and 15, by all that tell them */
+
+static void expect_named(uint32_t code, uint32_t number, int32_t scale, uint32_t point, const char *what)
+{
+    expect_number(code, number, what);
+    expect(node_scale == scale && node_point == point, what);
+    node_scale = -5;
+    node_point = 5;
+}
+
+static void divergences_refused(void)
+{
+    static const struct {
+        uint32_t link;   /* first link of (1,7): 1 for the chain (0,7), (0,9), 3 for (0,7) alone */
+        size_t last;     /* last index of the tables */
+        uint32_t number; /* where all nodes are read, with the node that it names */
+        int32_t scale;
+        uint32_t point;
+        uint32_t alone;  /* where (1,7) alone is read */
+        const char *what;
+    } rows[] = {
+        {1, 7, TEAKPOOL_DONE, -5, 5, TEAKPOOL_DONE, "no node is refused"},
+        {1, 6, TEAKPOOL_PAST_TABLE, 1, 7, TEAKPOOL_PAST_TABLE, "a total past the table"},
+        {1, 1, TEAKPOOL_PAST_TABLE, 0, 9, TEAKPOOL_PAST_TABLE, "two totals past the table: the lower node"},
+        {3, 7, TEAKPOOL_MISSING_CHILD, 1, 7, TEAKPOOL_MISSING_CHILD, "a missing child"},
+        {3, 2, TEAKPOOL_MISSING_CHILD, 1, 7, TEAKPOOL_MISSING_CHILD, "both in one node: 14"},
+        {3, 1, TEAKPOOL_PAST_TABLE, 0, 9, TEAKPOOL_MISSING_CHILD, "15 in a lower node comes before 14"},
+    };
+    static double four[4], value;
+    static uint64_t three[3];
+    node_scale = -5;
+    node_point = 5;
+    for EACH(i, rows) {
+        size_t size = rows[i].last + 1;
+        put_word(nodes + 28, rows[i].link);
+        open_and_add();
+        expect_named(read_all(size, sizeof nodes, 16, 2), rows[i].number, rows[i].scale, rows[i].point, rows[i].what);
+        expect_named(teakpool_kl_div_stats(state, book, sizeof book, queue, sizeof queue, nodes, sizeof nodes, children,
+                                           sizeof children, table, size, table, size, four, three, &node_scale, &node_point),
+                     rows[i].number, rows[i].scale, rows[i].point, rows[i].what);
+        expect_number(teakpool_posterior_kl_divergence(state, book, sizeof book, queue, sizeof queue, nodes, sizeof nodes, children,
+                                                       sizeof children, table, size, table, size, 1, 7, &value),
+                      rows[i].alone, rows[i].what);
+        fill_training();
+        expect_named(train(size, one_path, sizeof one_path, 1, 1, 1, ample), rows[i].number, rows[i].scale, rows[i].point,
+                     rows[i].what);
+        if (rows[i].number != TEAKPOOL_DONE) {
+            expect_left(0, "a training stopped by 14 or 15");
+        }
+    }
+    lend_priors();
+}
+
+/* ---- 17 and 18 */
+
+static void baselines(void)
+{
+    static const struct {
+        size_t knots_length, values_length;
+        uint32_t s, length, number;
+        const char *what;
+    } rows[] = {
+        {0, 0, 1, 7, TEAKPOOL_DONE, "no knots"},
+        {2, 20, 0, 1, TEAKPOOL_BASELINE_INPUT, "no sequences"},
+        {2, 20, TEAKPOOL_MAX_SEQUENCES, 1, TEAKPOOL_DONE, "the most sequences"},
+        {2, 20, TEAKPOOL_MAX_SEQUENCES + 1, 1, TEAKPOOL_BASELINE_INPUT, "more sequences"},
+        {2, 19, 1, 1, TEAKPOOL_BASELINE_INPUT, "a value too few"},
+        {2, 21, 1, 1, TEAKPOOL_BASELINE_INPUT, "a value too many"},
+        {TEAKPOOL_MAX_KNOTS, TEAKPOOL_MAX_KNOTS * 10, 1, 9999, TEAKPOOL_DONE, "the most knots"},
+        {TEAKPOOL_MAX_KNOTS + 1, (TEAKPOOL_MAX_KNOTS + 1) * 10, 1, 1, TEAKPOOL_BASELINE_INPUT, "more knots"},
+        {1, 10, 1, 1, TEAKPOOL_DONE, "at the only knot"},
+        {1, 10, 1, 2, TEAKPOOL_ONE_KNOT, "past the only knot"},
+    };
+    double ten[10];
+    memset(values, 0, sizeof values);
+    for (uint32_t k = 0; k <= TEAKPOOL_MAX_KNOTS; k++) {
+        knots[k] = k + 1;
+    }
+    for EACH(i, rows) {
+        expect_number(teakpool_stats(knots, rows[i].knots_length, values, rows[i].values_length, rows[i].s, rows[i].length, ten),
+                      rows[i].number, rows[i].what);
+    }
+    knots[1] = knots[0];
+    expect_number(teakpool_stats(knots, 2, values, 20, 1, 1, ten), TEAKPOOL_BASELINE_INPUT, "knots that do not rise");
+}
+
+int main(void)
+{
+    lend_priors();
+    put_word(one_path, 2);
+    put_address(one_path + 4, 1, 7);
+    put_address(one_path + 12, 0, 9);
+    table_lengths();
+    table_entries();
+    prior_records();
+    prior_sizes();
+    prior_chains();
+    openings();
+    path_lengths();
+    full_trackers();
+    form_of_state();
+    form_of_bytes();
+    short_outputs();
+    lowest_first();
+    training_input();
+    training_order();
+    divergences_refused();
+    baselines();
+    for (uint32_t number = TEAKPOOL_TABLE_LENGTHS; number <= TEAKPOOL_ONE_KNOT; number++) {
+        if (!met[number]) {
+            printf("not as expected: %u is never returned\n", number);
+            failures++;
+        }
+    }
+    if (failures == 0) {
+        printf("refusals: every number from 1 to 18 is returned where it should be\n");
+    }
+    return failures == 0 ? 0 : 1;
+}
