@@ -19,7 +19,6 @@ pub type Prior = (Address, u32, Vec<(Address, u32)>);
 /// All of it, made from a seed.
 pub struct Load {
     children: Vec<Vec<usize>>,
-    unused: Vec<Vec<usize>>,
     rng: Rng,
     /// The priors, ascending.
     pub priors: Vec<Prior>,
@@ -56,7 +55,7 @@ impl Load {
             priors.push((address(node), singleton, counted));
             children.push(own);
         }
-        Load { unused: children.clone(), children, rng, priors, records, tables: gamma(LAST) }
+        Load { children, rng, priors, records, tables: gamma(LAST) }
     }
 
     /// A random path.
@@ -75,18 +74,23 @@ impl Load {
         (0..count).map(|_| self.path()).collect()
     }
 
-    /// A path that takes transitions not taken yet, while there are some.
-    pub fn fresh_path(&mut self) -> Option<Vec<Address>> {
-        let mut node = (0..NODES).find(|node| !self.unused[*node].is_empty())?;
-        let mut path = vec![address(node)];
-        while path.len() < STEPS {
-            node = match self.unused[node].pop() {
-                Some(child) => child,
-                None => self.rng.pick(&self.children[node]),
-            };
-            path.push(address(node));
+    /// Paths that take every transition.
+    pub fn all_transitions(&mut self) -> Vec<Vec<Address>> {
+        let mut unused = self.children.clone();
+        let mut paths = Vec::new();
+        while let Some(first) = unused.iter().position(|children| !children.is_empty()) {
+            let mut node = first;
+            let mut path = vec![address(node)];
+            while path.len() < STEPS {
+                node = match unused[node].pop() {
+                    Some(child) => child,
+                    None => self.rng.pick(&self.children[node]),
+                };
+                path.push(address(node));
+            }
+            paths.push(path);
         }
-        Some(path)
+        paths
     }
 
     /// Some node.

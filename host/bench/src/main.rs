@@ -6,9 +6,13 @@
 //!     bench [--rounds R]
 
 #[cfg(not(no_goko))]
+mod agree;
+#[cfg(not(no_goko))]
 mod clock;
 #[cfg(not(no_goko))]
 mod load;
+#[cfg(not(no_goko))]
+mod pace;
 #[cfg(not(no_goko))]
 mod rows;
 #[cfg(not(no_goko))]

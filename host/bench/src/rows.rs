@@ -1,17 +1,22 @@
-//! The rows of the table. A row runs the same work on both sides in turn, several rounds.
+//! The rows of the table. A row runs the same work on both sides in turn, several rounds; what the
+//! two sides have must be the same.
 
+use crate::agree;
 use crate::clock::timed;
 use crate::load::{Load, NODES};
-use crate::sides::{filled, goko_address, goko_path, goko_priors, memory, ENTRIES};
-use oracle::Goko;
+use crate::pace::Formed;
+use crate::sides::{filled, goko_address, goko_path, goko_priors, ENTRIES, MOST_ENTRIES};
+use oracle::{Goko, NodeAddress, Trace};
 use std::hint::black_box;
-use teakpool::{
-    path_bytes, place_bytes, Address, Baseline, Output, Sequences, Tables, Tracker, ENTRY_BYTES, KNOT_VALUES,
-};
+use teakpool::{path_bytes, place_bytes, Address, Baseline, Output, Sequences, Tables, Tracker, KNOT_VALUES};
 
-/// Calls of a round: cheap ones and those over all nodes.
-const MANY: usize = 400;
-const FEW: usize = 20;
+/// Calls of a round: adds, readings of one node, readings of all nodes.
+const ADDS: usize = 4_000;
+const READINGS: usize = 400;
+const LISTS: usize = 20;
+
+/// Lets an answer go unread.
+fn let_go<T>(_: T) {}
 
 fn median(mut times: Vec<f64>) -> f64 {
     times.sort_by(f64::total_cmp);
@@ -38,127 +43,126 @@ fn row(name: &str, rounds: usize, mut round: impl FnMut() -> (f64, f64)) {
 /// All rows.
 pub fn print(rounds: usize) {
     let mut load = Load::new(1);
-    let (mut book, mut queue) = memory();
-    let (mut ours, mut theirs) = filled(&mut load, &mut book, &mut queue);
     println!("goko's map is {}\n", if hashbrown::ORDERED { "ordered" } else { "hashed" });
     println!("| call | archive, µs | goko, µs | ratio | in {} rounds |", rounds);
     println!("|---|---|---|---|---|");
-    adds(&mut load, &mut ours, &mut theirs, rounds);
+    let (mut memory, state, mut theirs) = filled(&mut load, MOST_ENTRIES);
+    let mut ours = Tracker::resume(state, &mut memory.book, &mut memory.queue);
+    tested_adds(&mut load, &mut ours, &mut theirs, rounds);
+    formed_adds("add_path, without it", MOST_ENTRIES, &mut load, rounds);
+    formed_adds("the same, no entry free", ENTRIES, &mut load, rounds);
     one_node(&mut load, &ours, &theirs, rounds);
     all_nodes(&load, &ours, &theirs, rounds);
-    trainings(&mut load, rounds);
+    trainings(&mut load, rounds.div_ceil(3));
 }
 
-fn adds(load: &mut Load, ours: &mut Tracker, theirs: &mut Goko, rounds: usize) {
+/// A round of adds on both sides.
+fn adds(load: &mut Load, mut ours: impl FnMut(&[u8]), theirs: &mut Goko) -> (f64, f64) {
+    let paths = load.paths(ADDS);
+    let bytes: Vec<Vec<u8>> = paths.iter().map(|path| path_bytes(path)).collect();
+    let traces: Vec<Trace> = paths.iter().map(|path| oracle::trace(&goko_path(path))).collect();
+    let one = timed(ADDS, || bytes.iter().for_each(|path| ours(path)));
+    let other =
+        timed(ADDS, || traces.into_iter().for_each(|trace| theirs.add_trace(trace).expect("goko takes it")));
+    (one, other)
+}
+
+fn tested_adds(load: &mut Load, ours: &mut Tracker, theirs: &mut Goko, rounds: usize) {
     row("add_path, with its form test", rounds, || {
-        let paths = load.paths(MANY);
-        let bytes: Vec<Vec<u8>> = paths.iter().map(|path| path_bytes(path)).collect();
-        let given: Vec<Vec<oracle::NodeAddress>> = paths.iter().map(|path| goko_path(path)).collect();
-        let one = timed(MANY, || bytes.iter().for_each(|path| ours.add_path(path).expect("there is room")));
-        let other =
-            timed(MANY, || given.iter().for_each(|path| theirs.add_path(path).expect("goko takes it")));
-        (one, other)
+        adds(load, |path| ours.add_path(path).expect("there is room"), theirs)
     });
+    agree::counts(ours.state().used as usize, ours.book(), theirs);
+}
+
+fn formed_adds(name: &str, capacity: usize, load: &mut Load, rounds: usize) {
+    let (mut memory, state, mut theirs) = filled(load, capacity);
+    let mut ours = Formed::after(state, &mut memory.book, &mut memory.queue);
+    row(name, rounds, || adds(load, |path| ours.add_path(path), &mut theirs));
+    let (used, book) = ours.book();
+    agree::counts(used, book, &theirs);
 }
 
 /// The readings of one node.
 fn one_node(load: &mut Load, ours: &Tracker, theirs: &Goko, rounds: usize) {
-    let nodes: Vec<Address> = (0..MANY).map(|_| load.node()).collect();
+    let nodes: Vec<Address> = (0..READINGS).map(|_| load.node()).collect();
     let (priors, tables) = (load.records.lent(), Tables { g: &load.tables.g, d: &load.tables.d });
     let (mut addresses, mut figures) = ([0; 8 * 64], [0.0; 64]);
-    row("prob_vector", rounds, || {
-        let mut output = Output { addresses: &mut addresses, figures: &mut figures };
-        let one = timed(MANY, || {
-            for node in &nodes {
-                black_box(ours.prob_vector(priors, *node, &mut output).expect("it is answered"));
-            }
-        });
-        let other = timed(MANY, || {
-            for node in &nodes {
-                black_box(theirs.prob_vector(goko_address(*node)).expect("goko answers"));
-            }
-        });
+    let mut output = Output { addresses: &mut addresses, figures: &mut figures };
+    for node in &nodes {
+        let known = theirs.prob_vector(goko_address(*node)).expect("goko answers");
+        agree::vector(ours.prob_vector(priors, *node, &mut output).expect("it is answered"), &output, known);
+        let known = theirs.evidence_prob_vector(goko_address(*node)).expect("goko answers");
+        agree::vector(ours.evidence_prob_vector(*node, &mut output).expect("it is answered"), &output, known);
+        let known = theirs.posterior_kl_divergence(goko_address(*node)).expect("goko answers");
+        let divergence = ours.posterior_kl_divergence(tables, priors, *node).expect("it is answered");
+        assert_eq!(divergence, known.flatten(), "both have the same divergence");
+    }
+    let each = |ours: &mut dyn FnMut(Address), theirs: &dyn Fn(NodeAddress)| {
+        let one = timed(READINGS, || nodes.iter().for_each(|node| ours(*node)));
+        let other = timed(READINGS, || nodes.iter().for_each(|node| theirs(goko_address(*node))));
         (one, other)
+    };
+    row("prob_vector", rounds, || {
+        each(
+            &mut |node| let_go(black_box(ours.prob_vector(priors, node, &mut output))),
+            &|node| let_go(black_box(theirs.prob_vector(node))),
+        )
     });
     row("evidence_prob_vector", rounds, || {
-        let mut output = Output { addresses: &mut addresses, figures: &mut figures };
-        let one = timed(MANY, || {
-            for node in &nodes {
-                black_box(ours.evidence_prob_vector(*node, &mut output).expect("it is answered"));
-            }
-        });
-        let other = timed(MANY, || {
-            for node in &nodes {
-                black_box(theirs.evidence_prob_vector(goko_address(*node)).expect("goko answers"));
-            }
-        });
-        (one, other)
+        each(
+            &mut |node| let_go(black_box(ours.evidence_prob_vector(node, &mut output))),
+            &|node| let_go(black_box(theirs.evidence_prob_vector(node))),
+        )
     });
     row("posterior_kl_divergence", rounds, || {
-        let one = timed(MANY, || {
-            for node in &nodes {
-                black_box(ours.posterior_kl_divergence(tables, priors, *node).expect("it is answered"));
-            }
-        });
-        let other = timed(MANY, || {
-            for node in &nodes {
-                black_box(theirs.posterior_kl_divergence(goko_address(*node)).expect("goko answers"));
-            }
-        });
-        (one, other)
+        each(
+            &mut |node| let_go(black_box(ours.posterior_kl_divergence(tables, priors, node))),
+            &|node| let_go(black_box(theirs.posterior_kl_divergence(node))),
+        )
     });
 }
 
-/// The readings over all nodes; their figures must be goko's.
+/// The readings over all nodes.
 fn all_nodes(load: &Load, ours: &Tracker, theirs: &Goko, rounds: usize) {
     let (priors, tables) = (load.records.lent(), Tables { g: &load.tables.g, d: &load.tables.d });
     let (mut addresses, mut figures) = (vec![0; 8 * NODES], vec![0.0; NODES]);
-    let stats = ours.kl_div_stats(tables, priors).expect("it is answered");
-    let known = theirs.kl_div_stats().expect("goko answers");
-    assert_eq!((stats.maximum, stats.number), (known.max, known.nz_count), "both have the same figures");
-    row("all_node_kl", rounds, || {
-        let mut output = Output { addresses: &mut addresses, figures: &mut figures };
-        let one = timed(FEW, || {
-            for _ in 0..FEW {
-                black_box(ours.all_node_kl(tables, priors, &mut output).expect("it is answered"));
-            }
-        });
-        let other = timed(FEW, || {
-            for _ in 0..FEW {
-                black_box(theirs.all_node_kl().expect("goko answers"));
-            }
-        });
+    let mut output = Output { addresses: &mut addresses, figures: &mut figures };
+    let listed = ours.all_node_kl(tables, priors, &mut output).expect("it is answered");
+    let (known, skipped) = theirs.all_node_kl().expect("goko answers");
+    assert_eq!(u64::from(listed.skipped), skipped, "both skip as many nodes");
+    agree::places(listed.places, &output, known.into_iter().map(|(figure, node)| (node, figure)).collect());
+    agree::stats(&ours.kl_div_stats(tables, priors).expect("it is answered"), theirs);
+    let each = |ours: &mut dyn FnMut(), theirs: &dyn Fn()| {
+        let one = timed(LISTS, || (0..LISTS).for_each(|_| ours()));
+        let other = timed(LISTS, || (0..LISTS).for_each(|_| theirs()));
         (one, other)
+    };
+    row("all_node_kl", rounds, || {
+        each(&mut || let_go(black_box(ours.all_node_kl(tables, priors, &mut output))), &|| {
+            let_go(black_box(theirs.all_node_kl()))
+        })
     });
     row("kl_div_stats", rounds, || {
-        let one = timed(FEW, || {
-            for _ in 0..FEW {
-                black_box(ours.kl_div_stats(tables, priors).expect("it is answered"));
-            }
-        });
-        let other = timed(FEW, || {
-            for _ in 0..FEW {
-                black_box(theirs.kl_div_stats().expect("goko answers"));
-            }
-        });
-        (one, other)
+        each(&mut || let_go(black_box(ours.kl_div_stats(tables, priors))), &|| {
+            let_go(black_box(theirs.kl_div_stats()))
+        })
     });
 }
 
 /// Trainings, by the path: with knots on the way, and with one knot a sequence, which is next to
-/// adding alone, without a form test.
+/// adding alone.
 fn trainings(load: &mut Load, rounds: usize) {
     let (s, n) = (4, 2_048);
     let paths = load.paths(s * n);
     let places: Vec<u8> = paths.iter().flat_map(|path| place_bytes(path)).collect();
-    let given: Vec<Vec<oracle::NodeAddress>> = paths.iter().map(|path| goko_path(path)).collect();
-    let given: Vec<Vec<Vec<oracle::NodeAddress>>> = given.chunks(n).map(<[_]>::to_vec).collect();
+    let given: Vec<Vec<NodeAddress>> = paths.iter().map(|path| goko_path(path)).collect();
+    let given: Vec<Vec<Vec<NodeAddress>>> = given.chunks(n).map(<[_]>::to_vec).collect();
     let goko_priors = goko_priors(load);
     oracle::lend_tables(&load.tables.g, &load.tables.d);
-    let mut book = vec![0; ENTRY_BYTES * ENTRIES];
+    let mut book = vec![0; teakpool::ENTRY_BYTES * ENTRIES];
     let (mut knots, mut values) = (vec![0; 32], vec![0.0; 32 * KNOT_VALUES]);
     for (name, rate) in [("train, a path, a knot every 64", 64), ("train, a path, one knot a sequence", n)] {
-        row(name, rounds.min(3), || {
+        row(name, rounds, || {
             let sequences = Sequences { s: s as u32, n: n as u32, rate: rate as u32, places: &places };
             let tables = Tables { g: &load.tables.g, d: &load.tables.d };
             let mut trained = Vec::new();

@@ -1,14 +1,16 @@
 //! The two sides: a tracker of the archive's with its memory, and one of goko's, filled with the
-//! same paths until the book has 16,000 entries and the window is full.
+//! same paths until 16,000 entries are used and the window is full.
 
 use crate::load::{Load, CHILDREN, NODES};
 use oracle::{Goko, NodeAddress};
-use teakpool::{path_bytes, Address, Tracker, ENTRY_BYTES, PLACE_BYTES};
+use teakpool::{path_bytes, Address, State, Tracker, ENTRY_BYTES, PLACE_BYTES};
 
 /// The window of both.
 pub const WINDOW: u32 = 1_024;
-/// Entries of a full book.
+/// Entries used.
 pub const ENTRIES: usize = NODES * (CHILDREN + 1);
+/// Entries that a book may have at most.
+pub const MOST_ENTRIES: usize = 16_384;
 
 /// goko's form of an address.
 pub fn goko_address(address: Address) -> NodeAddress {
@@ -30,14 +32,20 @@ pub fn goko_priors(load: &Load) -> Vec<oracle::Prior> {
     load.priors.iter().map(prior).collect()
 }
 
-/// Book and queue.
-pub fn memory() -> (Vec<u8>, Vec<u8>) {
-    (vec![0; ENTRY_BYTES * ENTRIES], vec![0; PLACE_BYTES * WINDOW as usize])
+/// Book and queue of one tracker.
+pub struct Memory {
+    /// 24 bytes an entry.
+    pub book: Vec<u8>,
+    /// A place for each path of the window.
+    pub queue: Vec<u8>,
 }
 
-/// Opens and fills both.
-pub fn filled<'m>(load: &mut Load, book: &'m mut [u8], queue: &'m mut [u8]) -> (Tracker<'m>, Goko) {
-    let mut ours = Tracker::open(WINDOW, book, queue).expect("the sizes are taken");
+/// Memory that holds what a first lot of paths left in it, the state for it, and goko's tracker
+/// with the same paths.
+pub fn filled(load: &mut Load, capacity: usize) -> (Memory, State, Goko) {
+    let mut memory =
+        Memory { book: vec![0; ENTRY_BYTES * capacity], queue: vec![0; PLACE_BYTES * WINDOW as usize] };
+    let mut ours = Tracker::open(WINDOW, &mut memory.book, &mut memory.queue).expect("the sizes are taken");
     let mut theirs = Goko::open(WINDOW as usize);
     theirs.lend_priors(&goko_priors(load));
     oracle::lend_tables(&load.tables.g, &load.tables.d);
@@ -45,10 +53,9 @@ pub fn filled<'m>(load: &mut Load, book: &'m mut [u8], queue: &'m mut [u8]) -> (
         ours.add_path(&path_bytes(&path)).expect("the book has room");
         theirs.add_path(&goko_path(&path)).expect("goko takes it");
     };
-    while let Some(path) = load.fresh_path() {
-        add(path);
-    }
+    load.all_transitions().into_iter().for_each(&mut add);
     load.paths(WINDOW as usize).into_iter().for_each(add);
-    assert_eq!(ours.state().used as usize, ENTRIES, "the book is full");
-    (ours, theirs)
+    let state = ours.state();
+    assert_eq!(state.used as usize, ENTRIES, "all nodes and transitions are listed");
+    (memory, state, theirs)
 }

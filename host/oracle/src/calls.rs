@@ -39,6 +39,14 @@ pub struct NodeEvidence {
 /// goko's form of a probability vector: children, and the ending.
 pub type ProbVector = (Vec<(NodeAddress, f64)>, f64);
 
+/// goko's form of a path: each step with a distance, which goko does not read.
+pub type Trace = Vec<(f32, NodeAddress)>;
+
+/// A path in that form.
+pub fn trace(path: &[NodeAddress]) -> Trace {
+    path.iter().map(|address| (0.0, *address)).collect()
+}
+
 /// Lends G and D to goko's `ln_gamma` and `digamma` on this thread.
 pub fn lend_tables(ln_gamma: &[f64], digamma: &[f64]) {
     statrs::function::gamma::lend(ln_gamma, digamma);
@@ -65,7 +73,11 @@ impl Goko {
 
     /// `add_path`.
     pub fn add_path(&mut self, path: &[NodeAddress]) -> Result<(), Panic> {
-        let trace = path.iter().map(|address| (0.0, *address)).collect();
+        self.add_trace(trace(path))
+    }
+
+    /// `add_path`, of a path in goko's own form.
+    pub fn add_trace(&mut self, trace: Trace) -> Result<(), Panic> {
         caught(|| self.tracker.add_path(trace))
     }
 

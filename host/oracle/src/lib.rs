@@ -24,7 +24,9 @@ pub use self::present::*;
 /// The names that goko's files take from their crate's root, and the calls.
 #[cfg(not(no_goko))]
 mod present {
-    pub use crate::calls::{lend_tables, stats, train, train_with_length, Goko, NodeEvidence, Prior};
+    pub use crate::calls::{
+        lend_tables, stats, trace, train, train_with_length, Goko, NodeEvidence, Prior, ProbVector, Trace,
+    };
     pub use crate::caught::Panic;
     pub use crate::covertree::{CoverTreeReader, PointCloud};
 

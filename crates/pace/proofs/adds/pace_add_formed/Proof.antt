@@ -1,0 +1,63 @@
+-- The add answers and leaves what the definitions say of the tracker with these numbers, and its state is told.
+use mathlib.Core.Path.{_≡_, ap, _∙_}
+use Rattle.book.specs.declared.trackers.Tracker.{Tracker}
+use Rattle.book.specs.Form.{inForm}
+use Rattle.book.specs.Calls.{addNumber, addState, addBook, addQueue}
+use Rattle.exports.specs.Outputs.{trackerOf}
+use Rattle.exports.proofs.AnswerLaws.{add-left}
+use borrow.Author.Needs.{needs}
+use Rattle.pace.proofs.adds.pace_add_formed.Statement.{statement}
+use Rattle.pace.proofs.adds.pace_add_formed.Tie as tie
+
+tracker-of-requires : tie.Need-tracker-of-requires
+tracker-of-requires c κs = search needs
+
+add-formed-requires : tie.Need-add-formed-requires
+add-formed-requires c κs =
+    let made = c .before .before in
+    let start = made .before .before .before .before .before in
+    ap (λ (t : Tracker). inForm t (start .args .book .now) (start .args .queue .now)) (made .tracker-of .ensures) ∙ start .pre
+
+tell-added-requires : tie.Need-tell-added-requires
+tell-added-requires c κs = search needs
+
+same-length : tie.Need-same-length
+same-length c = search needs
+
+same-length-2 : tie.Need-same-length-2
+same-length-2 c = search needs
+
+returns : tie.Need-returns
+returns c =
+    let add = c .before .before .before .before .before .before in
+    let made = add .before .before .before in
+    let start = made .before .before .before .before .before in
+    let state = start .args .state .now in
+    let book = start .args .book .now in
+    let queue = start .args .queue .now in
+    let path = start .args .path .now in
+    let t = made .tracker-of .ensures in
+    let said = add .add-formed .ensures in
+    let number = said .0 ∙ ap (λ (t : Tracker). addNumber t book queue path) t in
+    let after = said .1 .0 ∙ ap (λ (t : Tracker). addState t book queue path) t in (
+      c .tell-added .ensures .0 ∙ number,
+      (
+        said .1 .1 .0 ∙ ap (λ (t : Tracker). addBook t book queue path) t,
+        (
+          said .1 .1 .1 ∙ ap (λ (t : Tracker). addQueue t book queue path) t,
+          c .tell-added .ensures .1
+              ∙ add-left (add .add-formed .result) (addNumber (trackerOf state) book queue path) (addState (trackerOf state) book queue path) state number after,
+        ),
+      ),
+    )
+
+pub pace-add-formed-spec : {M : Type 1} → statement M
+pace-add-formed-spec =
+    tie.close
+    (tie.spec
+    tracker-of-requires
+    add-formed-requires
+    tell-added-requires
+    same-length
+    same-length-2
+    returns)

@@ -1,0 +1,28 @@
+// An add without its form test, for the benchmark alone: the archive that makers link has no such call, since C cannot promise the
+// form. The benchmark hands on what adds before it left.
+ghost use mathlib.Core.Path.{_≡_};
+ghost use mathlib.Core.Bool.{true};
+ghost use Rattle.book.specs.Form.{inForm};
+ghost use Rattle.book.specs.Calls.{addNumber, addBook, addQueue};
+ghost use Rattle.exports.specs.Outputs.{trackerOf, addNumbers};
+use exports::answers::tell_added;
+use exports::answers::tracker_of;
+
+// Numbers 10 to 12.
+#[no_mangle]
+pub extern "C" fn pace_add_formed(
+    state: &mut [u32; 3],
+    book: &mut [u8],
+    queue: &mut [u8],
+    path: &[u8],
+) -> u32
+    requires { ⌜ inForm (trackerOf (now state)) (now book) (now queue) ≡ true ⌝ }
+    ensures { λ r. ⌜ r ≡ addNumber (trackerOf (now (state .entry))) (now (book .entry)) (now (queue .entry)) (now (path .entry)) ⌝ }
+    ensures { λ _. ⌜ now (book .exit) ≡ addBook (trackerOf (now (state .entry))) (now (book .entry)) (now (queue .entry)) (now (path .entry)) ⌝ }
+    ensures { λ _. ⌜ now (queue .exit) ≡ addQueue (trackerOf (now (state .entry))) (now (book .entry)) (now (queue .entry)) (now (path .entry)) ⌝ }
+    ensures { λ _. ⌜ now (state .exit) ≡ addNumbers (now (state .entry)) (now (book .entry)) (now (queue .entry)) (now (path .entry)) ⌝ }
+{
+    let t = tracker_of(state);
+    let answer = t.add_formed(book, queue, path);
+    tell_added(answer, state)
+}
