@@ -2,7 +2,7 @@
 
 use crate::refusal::done;
 use crate::tracker::PLACE_BYTES;
-use crate::{raw, Address, Priors, Refusal, Tables};
+use crate::{Address, Priors, Refusal, Tables};
 
 /// Values of a knot: a sum and a sum of squares for each of the five figures.
 pub const KNOT_VALUES: usize = 10;
@@ -93,33 +93,14 @@ impl<'a> Baseline<'a> {
         values: &'a mut [f64],
     ) -> Result<Baseline<'a>, Refusal> {
         let (mut count, mut node) = (0, Address::default());
-        // SAFETY: book, knots and values are lent exclusively, the rest are slices only read.
-        let answer = unsafe {
-            raw::teakpool_train(
-                tables.g.as_ptr(),
-                tables.g.len(),
-                tables.d.as_ptr(),
-                tables.d.len(),
-                priors.nodes.as_ptr(),
-                priors.nodes.len(),
-                priors.children.as_ptr(),
-                priors.children.len(),
-                sequences.places.as_ptr(),
-                sequences.places.len(),
-                sequences.s,
-                sequences.n,
-                sequences.rate,
-                book.as_mut_ptr(),
-                book.len(),
-                knots.as_mut_ptr(),
-                knots.len(),
-                values.as_mut_ptr(),
-                values.len(),
-                &mut count,
-                &mut node.scale,
-                &mut node.point,
-            )
-        };
+        let answer = archive::train(
+            (tables.g, tables.d),
+            (priors.nodes, priors.children),
+            (sequences.places, sequences.s, sequences.n, sequences.rate),
+            (book, knots, values),
+            &mut count,
+            (&mut node.scale, &mut node.point),
+        );
         done(answer, node)?;
         let count = count as usize;
         Ok(Baseline { s: sequences.s, knots: &knots[..count], values: &values[..KNOT_VALUES * count] })
@@ -129,18 +110,7 @@ impl<'a> Baseline<'a> {
     /// last interpolated, below the first or without knots all zeros.
     pub fn stats(&self, length: u32) -> Result<BaselineStats, Refusal> {
         let mut figures = [0.0; KNOT_VALUES];
-        // SAFETY: figures is ours alone and has ten numbers; knots and values are only read.
-        let answer = unsafe {
-            raw::teakpool_stats(
-                self.knots.as_ptr(),
-                self.knots.len(),
-                self.values.as_ptr(),
-                self.values.len(),
-                self.s,
-                length,
-                figures.as_mut_ptr(),
-            )
-        };
+        let answer = archive::stats(self.knots, self.values, self.s, length, &mut figures);
         done(answer, Address::default())?;
         let figure =
             |index: usize| MeanVariance { mean: figures[2 * index], variance: figures[2 * index + 1] };

@@ -2,7 +2,7 @@
 //! them itself; `check` does so alone.
 
 use crate::refusal::done;
-use crate::{raw, Address, Refusal};
+use crate::{Address, Refusal};
 
 /// The tables of ln gamma and digamma: index k holds the value at k, index 0 is never read.
 ///
@@ -24,11 +24,7 @@ pub struct Tables<'a> {
 impl Tables<'_> {
     /// Refusals 1 and 2.
     pub fn check(&self) -> Result<(), Refusal> {
-        // SAFETY: both are slices, only read.
-        let answer = unsafe {
-            raw::teakpool_check_tables(self.g.as_ptr(), self.g.len(), self.d.as_ptr(), self.d.len())
-        };
-        done(answer, Address::default())
+        done(archive::check_tables((self.g, self.d)), Address::default())
     }
 }
 
@@ -52,12 +48,7 @@ pub struct Priors<'a> {
 impl Priors<'_> {
     /// Refusals 3 to 7.
     pub fn check(&self) -> Result<(), Refusal> {
-        let (nodes, children) = (self.nodes, self.children);
-        // SAFETY: both are slices, only read.
-        let answer = unsafe {
-            raw::teakpool_check_priors(nodes.as_ptr(), nodes.len(), children.as_ptr(), children.len())
-        };
-        done(answer, Address::default())
+        done(archive::check_priors((self.nodes, self.children)), Address::default())
     }
 }
 

@@ -6,14 +6,16 @@
 //! A call that is turned back gives a `Refusal` and changes nothing that it was lent, but for a
 //! training that has begun. A reading that goko answers with `None` gives `Ok(None)`.
 
+#![forbid(unsafe_code)]
+
 mod address;
 mod baseline;
 mod lent;
-pub mod raw;
 mod refusal;
 mod tracker;
 
 pub use address::{path_bytes, Address};
+pub use archive::raw;
 pub use baseline::{place_bytes, Baseline, BaselineStats, MeanVariance, Sequences, KNOT_VALUES};
 pub use lent::{PriorRecords, Priors, Tables};
 pub use refusal::Refusal;

@@ -1,7 +1,7 @@
 //! A tracker: its state, and the book and queue that it is lent. The readings change nothing.
 
 use crate::refusal::done;
-use crate::{raw, Address, Priors, Refusal, Tables};
+use crate::{Address, Priors, Refusal, Tables};
 
 /// Bytes of a book entry.
 pub const ENTRY_BYTES: usize = 24;
@@ -133,17 +133,7 @@ impl<'m> Tracker<'m> {
     /// ```
     pub fn open(window: u32, book: &'m mut [u8], queue: &'m mut [u8]) -> Result<Tracker<'m>, Refusal> {
         let mut state = [0; 3];
-        // SAFETY: book, queue and state are different memory, lent exclusively.
-        let answer = unsafe {
-            raw::teakpool_open(
-                window,
-                book.as_mut_ptr(),
-                book.len(),
-                queue.as_mut_ptr(),
-                queue.len(),
-                state.as_mut_ptr(),
-            )
-        };
+        let answer = archive::open(window, book, queue, &mut state);
         done(answer, Address::default())?;
         Ok(Tracker { state: State::of(state), book, queue })
     }
@@ -199,18 +189,7 @@ impl<'m> Tracker<'m> {
     /// ```
     pub fn add_path(&mut self, path: &[u8]) -> Result<(), Refusal> {
         let mut state = self.state.words();
-        // SAFETY: state, book and queue are different memory, lent exclusively; path is a slice.
-        let answer = unsafe {
-            raw::teakpool_add_path(
-                state.as_mut_ptr(),
-                self.book.as_mut_ptr(),
-                self.book.len(),
-                self.queue.as_mut_ptr(),
-                self.queue.len(),
-                path.as_ptr(),
-                path.len(),
-            )
-        };
+        let answer = archive::add_path(&mut state, self.book, self.queue, path);
         done(answer, Address::default())?;
         self.state = State::of(state);
         Ok(())
@@ -242,28 +221,13 @@ impl<'m> Tracker<'m> {
         output: &mut Output,
     ) -> Result<Option<ProbVector>, Refusal> {
         let (mut places, mut ending) = (0, 0.0);
-        // SAFETY: the outputs are lent exclusively, the rest are slices that are only read.
-        let answer = unsafe {
-            raw::teakpool_prob_vector(
-                self.state.words().as_ptr(),
-                self.book.as_ptr(),
-                self.book.len(),
-                self.queue.as_ptr(),
-                self.queue.len(),
-                priors.nodes.as_ptr(),
-                priors.nodes.len(),
-                priors.children.as_ptr(),
-                priors.children.len(),
-                node.scale,
-                node.point,
-                output.addresses.as_mut_ptr(),
-                output.addresses.len(),
-                output.figures.as_mut_ptr(),
-                output.figures.len(),
-                &mut places,
-                &mut ending,
-            )
-        };
+        let answer = archive::prob_vector(
+            (&self.state.words(), self.book, self.queue),
+            (priors.nodes, priors.children),
+            (node.scale, node.point),
+            (output.addresses, output.figures),
+            (&mut places, &mut ending),
+        );
         answered(answer, node, ProbVector { places, ending })
     }
 
@@ -290,24 +254,12 @@ impl<'m> Tracker<'m> {
         output: &mut Output,
     ) -> Result<Option<ProbVector>, Refusal> {
         let (mut places, mut ending) = (0, 0.0);
-        // SAFETY: the outputs are lent exclusively, the rest are slices that are only read.
-        let answer = unsafe {
-            raw::teakpool_evidence_prob_vector(
-                self.state.words().as_ptr(),
-                self.book.as_ptr(),
-                self.book.len(),
-                self.queue.as_ptr(),
-                self.queue.len(),
-                node.scale,
-                node.point,
-                output.addresses.as_mut_ptr(),
-                output.addresses.len(),
-                output.figures.as_mut_ptr(),
-                output.figures.len(),
-                &mut places,
-                &mut ending,
-            )
-        };
+        let answer = archive::evidence_prob_vector(
+            (&self.state.words(), self.book, self.queue),
+            (node.scale, node.point),
+            (output.addresses, output.figures),
+            (&mut places, &mut ending),
+        );
         answered(answer, node, ProbVector { places, ending })
     }
 
@@ -319,27 +271,13 @@ impl<'m> Tracker<'m> {
         node: Address,
     ) -> Result<Option<f64>, Refusal> {
         let mut value = 0.0;
-        // SAFETY: value is ours alone, the rest are slices that are only read.
-        let answer = unsafe {
-            raw::teakpool_posterior_kl_divergence(
-                self.state.words().as_ptr(),
-                self.book.as_ptr(),
-                self.book.len(),
-                self.queue.as_ptr(),
-                self.queue.len(),
-                priors.nodes.as_ptr(),
-                priors.nodes.len(),
-                priors.children.as_ptr(),
-                priors.children.len(),
-                tables.g.as_ptr(),
-                tables.g.len(),
-                tables.d.as_ptr(),
-                tables.d.len(),
-                node.scale,
-                node.point,
-                &mut value,
-            )
-        };
+        let answer = archive::posterior_kl_divergence(
+            (&self.state.words(), self.book, self.queue),
+            (priors.nodes, priors.children),
+            (tables.g, tables.d),
+            (node.scale, node.point),
+            &mut value,
+        );
         answered(answer, node, value)
     }
 
@@ -351,31 +289,14 @@ impl<'m> Tracker<'m> {
         output: &mut Output,
     ) -> Result<NodeKlList, Refusal> {
         let (mut counts, mut node) = ([0; 2], Address::default());
-        // SAFETY: the outputs are lent exclusively, the rest are slices that are only read.
-        let answer = unsafe {
-            raw::teakpool_all_node_kl(
-                self.state.words().as_ptr(),
-                self.book.as_ptr(),
-                self.book.len(),
-                self.queue.as_ptr(),
-                self.queue.len(),
-                priors.nodes.as_ptr(),
-                priors.nodes.len(),
-                priors.children.as_ptr(),
-                priors.children.len(),
-                tables.g.as_ptr(),
-                tables.g.len(),
-                tables.d.as_ptr(),
-                tables.d.len(),
-                output.addresses.as_mut_ptr(),
-                output.addresses.len(),
-                output.figures.as_mut_ptr(),
-                output.figures.len(),
-                counts.as_mut_ptr(),
-                &mut node.scale,
-                &mut node.point,
-            )
-        };
+        let answer = archive::all_node_kl(
+            (&self.state.words(), self.book, self.queue),
+            (priors.nodes, priors.children),
+            (tables.g, tables.d),
+            (output.addresses, output.figures),
+            &mut counts,
+            (&mut node.scale, &mut node.point),
+        );
         done(answer, node)?;
         Ok(NodeKlList { places: counts[0], skipped: counts[1] })
     }
@@ -383,28 +304,14 @@ impl<'m> Tracker<'m> {
     /// The statistics over all divergences: 1 to 7, 9, 14, 15.
     pub fn kl_div_stats(&self, tables: Tables, priors: Priors) -> Result<KLDivergenceStats, Refusal> {
         let (mut figures, mut counts, mut node) = ([0.0; 4], [0; 3], Address::default());
-        // SAFETY: the outputs are ours alone, the rest are slices that are only read.
-        let answer = unsafe {
-            raw::teakpool_kl_div_stats(
-                self.state.words().as_ptr(),
-                self.book.as_ptr(),
-                self.book.len(),
-                self.queue.as_ptr(),
-                self.queue.len(),
-                priors.nodes.as_ptr(),
-                priors.nodes.len(),
-                priors.children.as_ptr(),
-                priors.children.len(),
-                tables.g.as_ptr(),
-                tables.g.len(),
-                tables.d.as_ptr(),
-                tables.d.len(),
-                figures.as_mut_ptr(),
-                counts.as_mut_ptr(),
-                &mut node.scale,
-                &mut node.point,
-            )
-        };
+        let answer = archive::kl_div_stats(
+            (&self.state.words(), self.book, self.queue),
+            (priors.nodes, priors.children),
+            (tables.g, tables.d),
+            &mut figures,
+            &mut counts,
+            (&mut node.scale, &mut node.point),
+        );
         done(answer, node)?;
         let [maximum, minimum, sum, sum_of_squares] = figures;
         let [number, sequence_length, skipped] = counts;
@@ -415,7 +322,7 @@ impl<'m> Tracker<'m> {
 /// A value, goko's `None`, or a refusal.
 fn answered<T>(answer: u32, node: Address, value: T) -> Result<Option<T>, Refusal> {
     match answer {
-        raw::NONE => Ok(None),
+        archive::raw::NONE => Ok(None),
         answer => done(answer, node).map(|()| Some(value)),
     }
 }

@@ -1,7 +1,7 @@
 //! One case through the archive and on the recount: answers, outputs, state and every byte of
 //! book and queue must be the same, figures bit for bit. The archive's answers go to goko, too.
 
-use crate::archive::{Archive, Held, Told};
+use crate::calls::{Archive, Held, Told};
 use cases::altered::AlteredAdd;
 use cases::baselines::{StatsAsked, Training};
 use cases::calls::{Call, CallList, Places, PriorBytes, Tables};

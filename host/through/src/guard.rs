@@ -117,23 +117,29 @@ impl<T: Plain> Lent<T> {
     /// What it holds, to be written.
     pub fn now_mut(&mut self) -> &mut [T] {
         // SAFETY: as for `now`.
-        unsafe { std::slice::from_raw_parts_mut(self.at_mut(), self.length) }
+        unsafe { std::slice::from_raw_parts_mut(self.at(), self.length) }
+    }
+
+    /// What it holds, as an array.
+    pub fn array<const N: usize>(&self) -> &[T; N] {
+        self.now().try_into().expect("as many elements were laid down")
+    }
+
+    /// What it holds, as an array to be written.
+    pub fn array_mut<const N: usize>(&mut self) -> &mut [T; N] {
+        self.now_mut().try_into().expect("as many elements were laid down")
+    }
+
+    /// The one number that it holds, to be written.
+    pub fn number_mut(&mut self) -> &mut T {
+        let [number] = self.array_mut();
+        number
     }
 
     /// Where it begins.
-    pub fn at(&self) -> *const T {
+    fn at(&self) -> *mut T {
         // SAFETY: start is within the pages.
-        unsafe { self.pages.base.as_ptr().add(self.start) as *const T }
-    }
-
-    /// Where it begins, to be written.
-    pub fn at_mut(&mut self) -> *mut T {
-        self.at() as *mut T
-    }
-
-    /// Its number of elements.
-    pub fn len(&self) -> usize {
-        self.length
+        unsafe { self.pages.base.as_ptr().add(self.start) as *mut T }
     }
 
     /// Whether the band is as it was.

@@ -1,8 +1,8 @@
-//! Every short list, the recorded sample, and cases at the limits: tables of 1, 2, 1,048,576 and 1,048,577 entries and a U at the last
-//! index, priors of the most records and one more, chains of 63 to 65, books and queues at their
-//! largest sizes, long windows, 1,024 knots and one more.
+//! Every short list, the recorded sample, and cases at the limits: tables of 1, 2, 1,048,576 and
+//! 1,048,577 entries and a U at the last index, priors of the most records and one more, chains of
+//! 63 to 65, books and queues at their largest sizes, long windows, 1,024 knots and one more.
 
-use crate::archive::Archive;
+use crate::calls::Archive;
 use crate::check;
 use cases::baselines::Training;
 use cases::calls::{Call, CallList, Places, PriorBytes, Tables};

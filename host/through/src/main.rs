@@ -5,12 +5,12 @@
 //!
 //!     through [--lists N] [--long] [--seed S] [--threads T]
 
-mod archive;
+mod calls;
 mod check;
 mod guard;
 mod limits;
 
-use archive::Archive;
+use calls::Archive;
 use cases::altered::altered_add;
 use cases::calls::{Places, PriorBytes, Tables};
 use cases::lists::{call_list, Shape};

@@ -22,10 +22,7 @@ extern "C" {
     /// # Safety
     /// `nodes` and `children` are slices as the module says; they may be the same memory.
     pub fn teakpool_check_priors(
-        nodes: *const u8,
-        nodes_len: usize,
-        children: *const u8,
-        children_len: usize,
+        nodes: *const u8, nodes_len: usize, children: *const u8, children_len: usize,
     ) -> u32;
 
     /// Opens a tracker: book and queue become zero, `state` the window and two zeros.
@@ -35,11 +32,7 @@ extern "C" {
     /// two of them overlap.
     pub fn teakpool_open(
         window: u32,
-        book: *mut u8,
-        book_len: usize,
-        queue: *mut u8,
-        queue_len: usize,
-        state: *mut u32,
+        book: *mut u8, book_len: usize, queue: *mut u8, queue_len: usize, state: *mut u32,
     ) -> u32;
 
     /// Adds a path and takes the one away that leaves the window.
@@ -48,13 +41,8 @@ extern "C" {
     /// `state` points at three numbers, the others are slices as the module says, and `state`,
     /// `book` and `queue` overlap nothing.
     pub fn teakpool_add_path(
-        state: *mut u32,
-        book: *mut u8,
-        book_len: usize,
-        queue: *mut u8,
-        queue_len: usize,
-        path: *const u8,
-        path_len: usize,
+        state: *mut u32, book: *mut u8, book_len: usize, queue: *mut u8, queue_len: usize,
+        path: *const u8, path_len: usize,
     ) -> u32;
 
     /// A node's probabilities, prior and evidence together.
@@ -63,23 +51,11 @@ extern "C" {
     /// `state` points at three numbers, `places` and `ending` at one each, the others are slices
     /// as the module says, and `addresses`, `figures`, `places` and `ending` overlap nothing.
     pub fn teakpool_prob_vector(
-        state: *const u32,
-        book: *const u8,
-        book_len: usize,
-        queue: *const u8,
-        queue_len: usize,
-        nodes: *const u8,
-        nodes_len: usize,
-        children: *const u8,
-        children_len: usize,
-        scale: i32,
-        point: u32,
-        addresses: *mut u8,
-        addresses_len: usize,
-        figures: *mut f64,
-        figures_len: usize,
-        places: *mut u32,
-        ending: *mut f64,
+        state: *const u32, book: *const u8, book_len: usize, queue: *const u8, queue_len: usize,
+        nodes: *const u8, nodes_len: usize, children: *const u8, children_len: usize,
+        scale: i32, point: u32,
+        addresses: *mut u8, addresses_len: usize, figures: *mut f64, figures_len: usize,
+        places: *mut u32, ending: *mut f64,
     ) -> u32;
 
     /// A node's probabilities by its evidence alone.
@@ -87,19 +63,10 @@ extern "C" {
     /// # Safety
     /// As for `teakpool_prob_vector`.
     pub fn teakpool_evidence_prob_vector(
-        state: *const u32,
-        book: *const u8,
-        book_len: usize,
-        queue: *const u8,
-        queue_len: usize,
-        scale: i32,
-        point: u32,
-        addresses: *mut u8,
-        addresses_len: usize,
-        figures: *mut f64,
-        figures_len: usize,
-        places: *mut u32,
-        ending: *mut f64,
+        state: *const u32, book: *const u8, book_len: usize, queue: *const u8, queue_len: usize,
+        scale: i32, point: u32,
+        addresses: *mut u8, addresses_len: usize, figures: *mut f64, figures_len: usize,
+        places: *mut u32, ending: *mut f64,
     ) -> u32;
 
     /// One node's divergence; 14 and 15 are about that node.
@@ -108,22 +75,10 @@ extern "C" {
     /// `state` points at three numbers, `value` at one, the others are slices as the module says,
     /// and `value` overlaps nothing.
     pub fn teakpool_posterior_kl_divergence(
-        state: *const u32,
-        book: *const u8,
-        book_len: usize,
-        queue: *const u8,
-        queue_len: usize,
-        nodes: *const u8,
-        nodes_len: usize,
-        children: *const u8,
-        children_len: usize,
-        g: *const f64,
-        g_len: usize,
-        d: *const f64,
-        d_len: usize,
-        scale: i32,
-        point: u32,
-        value: *mut f64,
+        state: *const u32, book: *const u8, book_len: usize, queue: *const u8, queue_len: usize,
+        nodes: *const u8, nodes_len: usize, children: *const u8, children_len: usize,
+        g: *const f64, g_len: usize, d: *const f64, d_len: usize,
+        scale: i32, point: u32, value: *mut f64,
     ) -> u32;
 
     /// The divergences of all listed nodes with a prior; `counts` is places filled and nodes
@@ -133,26 +88,11 @@ extern "C" {
     /// `state` points at three numbers, `counts` at two, `node_scale` and `node_point` at one
     /// each, the others are slices as the module says, and nothing behind a `*mut` overlaps.
     pub fn teakpool_all_node_kl(
-        state: *const u32,
-        book: *const u8,
-        book_len: usize,
-        queue: *const u8,
-        queue_len: usize,
-        nodes: *const u8,
-        nodes_len: usize,
-        children: *const u8,
-        children_len: usize,
-        g: *const f64,
-        g_len: usize,
-        d: *const f64,
-        d_len: usize,
-        addresses: *mut u8,
-        addresses_len: usize,
-        figures: *mut f64,
-        figures_len: usize,
-        counts: *mut u32,
-        node_scale: *mut i32,
-        node_point: *mut u32,
+        state: *const u32, book: *const u8, book_len: usize, queue: *const u8, queue_len: usize,
+        nodes: *const u8, nodes_len: usize, children: *const u8, children_len: usize,
+        g: *const f64, g_len: usize, d: *const f64, d_len: usize,
+        addresses: *mut u8, addresses_len: usize, figures: *mut f64, figures_len: usize,
+        counts: *mut u32, node_scale: *mut i32, node_point: *mut u32,
     ) -> u32;
 
     /// The statistics: `figures` is maximum, minimum, sum, sum of squares; `counts` is the number
@@ -163,23 +103,10 @@ extern "C" {
     /// `node_point` at one each, the others are slices as the module says, and nothing behind a
     /// `*mut` overlaps.
     pub fn teakpool_kl_div_stats(
-        state: *const u32,
-        book: *const u8,
-        book_len: usize,
-        queue: *const u8,
-        queue_len: usize,
-        nodes: *const u8,
-        nodes_len: usize,
-        children: *const u8,
-        children_len: usize,
-        g: *const f64,
-        g_len: usize,
-        d: *const f64,
-        d_len: usize,
-        figures: *mut f64,
-        counts: *mut u64,
-        node_scale: *mut i32,
-        node_point: *mut u32,
+        state: *const u32, book: *const u8, book_len: usize, queue: *const u8, queue_len: usize,
+        nodes: *const u8, nodes_len: usize, children: *const u8, children_len: usize,
+        g: *const f64, g_len: usize, d: *const f64, d_len: usize,
+        figures: *mut f64, counts: *mut u64, node_scale: *mut i32, node_point: *mut u32,
     ) -> u32;
 
     /// Trains a baseline; `count` is the number of knots. 14 and 15 as above.
@@ -188,28 +115,12 @@ extern "C" {
     /// `count`, `node_scale` and `node_point` point at one number each, the others are slices as
     /// the module says, and nothing behind a `*mut` overlaps.
     pub fn teakpool_train(
-        g: *const f64,
-        g_len: usize,
-        d: *const f64,
-        d_len: usize,
-        nodes: *const u8,
-        nodes_len: usize,
-        children: *const u8,
-        children_len: usize,
-        sequences: *const u8,
-        sequences_len: usize,
-        s: u32,
-        n: u32,
-        rate: u32,
-        book: *mut u8,
-        book_len: usize,
-        knots: *mut u32,
-        knots_len: usize,
-        values: *mut f64,
-        values_len: usize,
-        count: *mut u32,
-        node_scale: *mut i32,
-        node_point: *mut u32,
+        g: *const f64, g_len: usize, d: *const f64, d_len: usize,
+        nodes: *const u8, nodes_len: usize, children: *const u8, children_len: usize,
+        sequences: *const u8, sequences_len: usize, s: u32, n: u32, rate: u32,
+        book: *mut u8, book_len: usize,
+        knots: *mut u32, knots_len: usize, values: *mut f64, values_len: usize,
+        count: *mut u32, node_scale: *mut i32, node_point: *mut u32,
     ) -> u32;
 
     /// A baseline's ten figures at a length: mean and variance of maximum, minimum, number, sum,
@@ -219,12 +130,7 @@ extern "C" {
     /// `knots` and `values` are slices as the module says, `figures` points at ten numbers and
     /// overlaps neither.
     pub fn teakpool_stats(
-        knots: *const u32,
-        knots_len: usize,
-        values: *const f64,
-        values_len: usize,
-        s: u32,
-        length: u32,
-        figures: *mut f64,
+        knots: *const u32, knots_len: usize, values: *const f64, values_len: usize,
+        s: u32, length: u32, figures: *mut f64,
     ) -> u32;
 }

@@ -3,11 +3,11 @@
 //! be as it was, and results must be unwritten unless the answer says otherwise.
 
 use crate::guard::{Lent, Plain};
+use archive::raw::NONE;
 use cases::baselines::Training;
 use cases::calls::{Places, PriorBytes, Tables};
 use recount::limits::KNOT_VALUES;
 use recount::{Address, KLDivergenceStats, NodeKlList, ProbVector, Refusal, State};
-use teakpool::raw;
 
 /// What results hold before a call.
 const UNWRITTEN: u32 = 0x5eed_5eed;
@@ -68,6 +68,13 @@ fn refused(number: u32, node: Option<Address>) -> Refusal {
     Refusal { number, node: node.filter(|_| number == 14 || number == 15) }
 }
 
+fn carried_out(answer: u32) -> Result<(), Refusal> {
+    match answer {
+        0 => Ok(()),
+        number => Err(refused(number, None)),
+    }
+}
+
 fn unwritten<T: Plain + PartialEq>(lent: &Lent<T>, value: T) -> bool {
     lent.now().iter().all(|word| *word == value)
 }
@@ -92,7 +99,7 @@ impl Archive {
     }
 
     fn words(&self) -> [u32; 3] {
-        self.state.now().try_into().expect("the state has three numbers")
+        *self.state.array()
     }
 
     /// Takes memory over from elsewhere.
@@ -163,47 +170,27 @@ impl Archive {
 
     /// `teakpool_check_tables` on the tables lent last.
     pub fn check_tables(&mut self) -> Told<Result<(), Refusal>> {
-        // SAFETY: guarded slices, aligned, with their true lengths.
-        let answer =
-            unsafe { raw::teakpool_check_tables(self.g.at(), self.g.len(), self.d.at(), self.d.len()) };
+        let answer = archive::check_tables((self.g.now(), self.d.now()));
         self.bands()?;
-        Ok(if answer == 0 { Ok(()) } else { Err(refused(answer, None)) })
+        Ok(carried_out(answer))
     }
 
     /// `teakpool_check_priors` on the priors lent last.
     pub fn check_priors(&mut self) -> Told<Result<(), Refusal>> {
-        // SAFETY: as above.
-        let answer = unsafe {
-            raw::teakpool_check_priors(
-                self.nodes.at(),
-                self.nodes.len(),
-                self.children.at(),
-                self.children.len(),
-            )
-        };
+        let answer = archive::check_priors((self.nodes.now(), self.children.now()));
         self.bands()?;
-        Ok(if answer == 0 { Ok(()) } else { Err(refused(answer, None)) })
+        Ok(carried_out(answer))
     }
 
     /// `teakpool_open` on memory that holds `fill` everywhere. Where it is refused, the memory
     /// must be as it was, and the tracker before it stands.
     pub fn open(&mut self, window: u32, lengths: (usize, usize), fill: u8) -> Told<Result<(), Refusal>> {
-        let before = (self.state.len() == 3).then(|| self.held());
+        let before = (self.state.now().len() == 3).then(|| self.held());
         let (book, queue) = (vec![fill; lengths.0], vec![fill; lengths.1]);
         self.state.lay(&[UNWRITTEN; 3]);
         self.book.lay(&book);
         self.queue.lay(&queue);
-        // SAFETY: guarded slices, aligned, apart from each other, with their true lengths.
-        let answer = unsafe {
-            raw::teakpool_open(
-                window,
-                self.book.at_mut(),
-                self.book.len(),
-                self.queue.at_mut(),
-                self.queue.len(),
-                self.state.at_mut(),
-            )
-        };
+        let answer = archive::open(window, self.book.now_mut(), self.queue.now_mut(), self.state.array_mut());
         self.bands()?;
         if answer == 0 {
             return Ok(Ok(()));
@@ -219,40 +206,43 @@ impl Archive {
     /// `teakpool_add_path`.
     pub fn add_path(&mut self, path: &[u8]) -> Told<Result<(), Refusal>> {
         self.path.lay(path);
-        // SAFETY: as above.
-        let answer = unsafe {
-            raw::teakpool_add_path(
-                self.state.at_mut(),
-                self.book.at_mut(),
-                self.book.len(),
-                self.queue.at_mut(),
-                self.queue.len(),
-                self.path.at(),
-                self.path.len(),
-            )
-        };
+        let answer = archive::add_path(
+            self.state.array_mut(),
+            self.book.now_mut(),
+            self.queue.now_mut(),
+            self.path.now(),
+        );
         self.bands()?;
         must(self.path.now() == path, "an add changed its path")?;
-        Ok(if answer == 0 { Ok(()) } else { Err(refused(answer, None)) })
+        Ok(carried_out(answer))
+    }
+
+    fn lay_output(&mut self, output: &Places) {
+        self.addresses.lay(&output.addresses);
+        self.figures.lay(&output.figures);
+    }
+
+    /// What a call left in the output.
+    fn left(&self) -> Places {
+        Places { addresses: self.addresses.now().to_vec(), figures: self.figures.now().to_vec() }
     }
 
     fn lay_vector(&mut self, output: &Places) {
-        self.addresses.lay(&output.addresses);
-        self.figures.lay(&output.figures);
+        self.lay_output(output);
         self.places.lay(&[UNWRITTEN]);
         self.ending.lay(&[UNWRITTEN_FIGURE]);
     }
 
     fn vector(&mut self, answer: u32) -> Told<(Result<Option<ProbVector>, Refusal>, Places)> {
         self.bands()?;
-        let left = Places { addresses: self.addresses.now().to_vec(), figures: self.figures.now().to_vec() };
+        let left = self.left();
         if answer == 0 {
             let vector = ProbVector { places: self.places.now()[0], ending: self.ending.now()[0] };
             return Ok((Ok(Some(vector)), left));
         }
         let kept = unwritten(&self.places, UNWRITTEN) && unwritten(&self.ending, UNWRITTEN_FIGURE);
         must(kept, "a vector that is not there was told")?;
-        Ok((if answer == raw::NONE { Ok(None) } else { Err(refused(answer, None)) }, left))
+        Ok((if answer == NONE { Ok(None) } else { Err(refused(answer, None)) }, left))
     }
 
     /// `teakpool_prob_vector`.
@@ -262,28 +252,13 @@ impl Archive {
         output: &Places,
     ) -> Told<(Result<Option<ProbVector>, Refusal>, Places)> {
         self.lay_vector(output);
-        // SAFETY: as above.
-        let answer = unsafe {
-            raw::teakpool_prob_vector(
-                self.state.at(),
-                self.book.at(),
-                self.book.len(),
-                self.queue.at(),
-                self.queue.len(),
-                self.nodes.at(),
-                self.nodes.len(),
-                self.children.at(),
-                self.children.len(),
-                node.scale,
-                node.point,
-                self.addresses.at_mut(),
-                self.addresses.len(),
-                self.figures.at_mut(),
-                self.figures.len(),
-                self.places.at_mut(),
-                self.ending.at_mut(),
-            )
-        };
+        let answer = archive::prob_vector(
+            (self.state.array(), self.book.now(), self.queue.now()),
+            (self.nodes.now(), self.children.now()),
+            (node.scale, node.point),
+            (self.addresses.now_mut(), self.figures.now_mut()),
+            (self.places.number_mut(), self.ending.number_mut()),
+        );
         self.vector(answer)
     }
 
@@ -294,93 +269,49 @@ impl Archive {
         output: &Places,
     ) -> Told<(Result<Option<ProbVector>, Refusal>, Places)> {
         self.lay_vector(output);
-        // SAFETY: as above.
-        let answer = unsafe {
-            raw::teakpool_evidence_prob_vector(
-                self.state.at(),
-                self.book.at(),
-                self.book.len(),
-                self.queue.at(),
-                self.queue.len(),
-                node.scale,
-                node.point,
-                self.addresses.at_mut(),
-                self.addresses.len(),
-                self.figures.at_mut(),
-                self.figures.len(),
-                self.places.at_mut(),
-                self.ending.at_mut(),
-            )
-        };
+        let answer = archive::evidence_prob_vector(
+            (self.state.array(), self.book.now(), self.queue.now()),
+            (node.scale, node.point),
+            (self.addresses.now_mut(), self.figures.now_mut()),
+            (self.places.number_mut(), self.ending.number_mut()),
+        );
         self.vector(answer)
     }
 
     /// `teakpool_posterior_kl_divergence`; 14 and 15 are about the node asked for.
     pub fn posterior_kl_divergence(&mut self, node: Address) -> Told<Result<Option<f64>, Refusal>> {
         self.ending.lay(&[UNWRITTEN_FIGURE]);
-        // SAFETY: as above.
-        let answer = unsafe {
-            raw::teakpool_posterior_kl_divergence(
-                self.state.at(),
-                self.book.at(),
-                self.book.len(),
-                self.queue.at(),
-                self.queue.len(),
-                self.nodes.at(),
-                self.nodes.len(),
-                self.children.at(),
-                self.children.len(),
-                self.g.at(),
-                self.g.len(),
-                self.d.at(),
-                self.d.len(),
-                node.scale,
-                node.point,
-                self.ending.at_mut(),
-            )
-        };
+        let answer = archive::posterior_kl_divergence(
+            (self.state.array(), self.book.now(), self.queue.now()),
+            (self.nodes.now(), self.children.now()),
+            (self.g.now(), self.d.now()),
+            (node.scale, node.point),
+            self.ending.number_mut(),
+        );
         self.bands()?;
         if answer == 0 {
             return Ok(Ok(Some(self.ending.now()[0])));
         }
         must(unwritten(&self.ending, UNWRITTEN_FIGURE), "a divergence that is not there was told")?;
-        Ok(if answer == raw::NONE { Ok(None) } else { Err(refused(answer, Some(node))) })
+        Ok(if answer == NONE { Ok(None) } else { Err(refused(answer, Some(node))) })
     }
 
     /// `teakpool_all_node_kl`.
     pub fn all_node_kl(&mut self, output: &Places) -> Told<(Result<NodeKlList, Refusal>, Places)> {
-        self.addresses.lay(&output.addresses);
-        self.figures.lay(&output.figures);
+        self.lay_output(output);
         self.places.lay(&[UNWRITTEN; 2]);
         self.lay_node();
-        // SAFETY: as above.
-        let answer = unsafe {
-            raw::teakpool_all_node_kl(
-                self.state.at(),
-                self.book.at(),
-                self.book.len(),
-                self.queue.at(),
-                self.queue.len(),
-                self.nodes.at(),
-                self.nodes.len(),
-                self.children.at(),
-                self.children.len(),
-                self.g.at(),
-                self.g.len(),
-                self.d.at(),
-                self.d.len(),
-                self.addresses.at_mut(),
-                self.addresses.len(),
-                self.figures.at_mut(),
-                self.figures.len(),
-                self.places.at_mut(),
-                self.node_scale.at_mut(),
-                self.node_point.at_mut(),
-            )
-        };
+        let answer = archive::all_node_kl(
+            (self.state.array(), self.book.now(), self.queue.now()),
+            (self.nodes.now(), self.children.now()),
+            (self.g.now(), self.d.now()),
+            (self.addresses.now_mut(), self.figures.now_mut()),
+            self.places.array_mut(),
+            (self.node_scale.number_mut(), self.node_point.number_mut()),
+        );
         self.bands()?;
         let node = self.named(answer)?;
-        let left = Places { addresses: self.addresses.now().to_vec(), figures: self.figures.now().to_vec() };
+        let left = self.left();
         if answer == 0 {
             let counts = self.places.now();
             return Ok((Ok(NodeKlList { places: counts[0], skipped: counts[1] }), left));
@@ -394,28 +325,14 @@ impl Archive {
         self.ending.lay(&[UNWRITTEN_FIGURE; 4]);
         self.numbers.lay(&[u64::from(UNWRITTEN); 3]);
         self.lay_node();
-        // SAFETY: as above.
-        let answer = unsafe {
-            raw::teakpool_kl_div_stats(
-                self.state.at(),
-                self.book.at(),
-                self.book.len(),
-                self.queue.at(),
-                self.queue.len(),
-                self.nodes.at(),
-                self.nodes.len(),
-                self.children.at(),
-                self.children.len(),
-                self.g.at(),
-                self.g.len(),
-                self.d.at(),
-                self.d.len(),
-                self.ending.at_mut(),
-                self.numbers.at_mut(),
-                self.node_scale.at_mut(),
-                self.node_point.at_mut(),
-            )
-        };
+        let answer = archive::kl_div_stats(
+            (self.state.array(), self.book.now(), self.queue.now()),
+            (self.nodes.now(), self.children.now()),
+            (self.g.now(), self.d.now()),
+            self.ending.array_mut(),
+            self.numbers.array_mut(),
+            (self.node_scale.number_mut(), self.node_point.number_mut()),
+        );
         self.bands()?;
         let node = self.named(answer)?;
         if answer != 0 {
@@ -447,33 +364,14 @@ impl Archive {
         self.values.lay(&training.values);
         self.places.lay(&[UNWRITTEN]);
         self.lay_node();
-        // SAFETY: as above.
-        let answer = unsafe {
-            raw::teakpool_train(
-                self.g.at(),
-                self.g.len(),
-                self.d.at(),
-                self.d.len(),
-                self.nodes.at(),
-                self.nodes.len(),
-                self.children.at(),
-                self.children.len(),
-                self.sequences.at(),
-                self.sequences.len(),
-                training.sequences,
-                training.paths,
-                training.rate,
-                self.book.at_mut(),
-                self.book.len(),
-                self.knots.at_mut(),
-                self.knots.len(),
-                self.values.at_mut(),
-                self.values.len(),
-                self.places.at_mut(),
-                self.node_scale.at_mut(),
-                self.node_point.at_mut(),
-            )
-        };
+        let answer = archive::train(
+            (self.g.now(), self.d.now()),
+            (self.nodes.now(), self.children.now()),
+            (self.sequences.now(), training.sequences, training.paths, training.rate),
+            (self.book.now_mut(), self.knots.now_mut(), self.values.now_mut()),
+            self.places.number_mut(),
+            (self.node_scale.number_mut(), self.node_point.number_mut()),
+        );
         self.bands()?;
         let node = self.named(answer)?;
         let read = self.lends_tables(&training.tables)
@@ -505,23 +403,12 @@ impl Archive {
         self.knots.lay(knots);
         self.values.lay(values);
         self.ending.lay(&[UNWRITTEN_FIGURE; KNOT_VALUES]);
-        // SAFETY: as above.
-        let answer = unsafe {
-            raw::teakpool_stats(
-                self.knots.at(),
-                self.knots.len(),
-                self.values.at(),
-                self.values.len(),
-                s,
-                length,
-                self.ending.at_mut(),
-            )
-        };
+        let answer = archive::stats(self.knots.now(), self.values.now(), s, length, self.ending.array_mut());
         self.bands()?;
         let read = self.knots.now() == knots && bits(self.values.now()).eq(bits(values));
         must(read, "stats changed what it only reads")?;
         if answer == 0 {
-            return Ok(Ok(self.ending.now().try_into().expect("ten figures were lent")));
+            return Ok(Ok(*self.ending.array()));
         }
         must(unwritten(&self.ending, UNWRITTEN_FIGURE), "figures that are not there were told")?;
         Ok(Err(refused(answer, None)))

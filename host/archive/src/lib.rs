@@ -1,0 +1,35 @@
+//! The proved archive's calls over plain slices, arrays and numbers. Here alone they become the
+//! pointers and lengths that `raw` declares. A call returns the archive's number, and what it
+//! writes stands in what it was lent.
+//!
+//! The calls are safe, because a reference promises what `raw` asks: it is aligned and not null,
+//! also where the slice is empty; a slice's length is true; what is lent to be written overlaps
+//! nothing else, and nobody else reads or writes it until the call returns.
+
+// Laid out by hand: a line for each thing lent.
+#[rustfmt::skip]
+mod calls;
+#[rustfmt::skip]
+pub mod raw;
+
+pub use calls::*;
+
+/// A tracker that is only read: state, book and queue. The state is the window, entries used and
+/// paths accepted.
+pub type Tracker<'a> = (&'a [u32; 3], &'a [u8], &'a [u8]);
+/// Node records and child records.
+pub type Priors<'a> = (&'a [u8], &'a [u8]);
+/// The tables of ln gamma and digamma.
+pub type Tables<'a> = (&'a [f64], &'a [f64]);
+/// The scale and the point of a node asked for.
+pub type Node = (i32, u32);
+/// Where 14 and 15 name a node: its scale and its point.
+pub type Named<'a> = (&'a mut i32, &'a mut u32);
+/// Output places: addresses, eight bytes each, and figures.
+pub type Output<'a> = (&'a mut [u8], &'a mut [f64]);
+/// What a probability vector has beside its output: places filled and the ending's figure.
+pub type Vector<'a> = (&'a mut u32, &'a mut f64);
+/// A training's sequences: their places, s, n and the rate.
+pub type Sequences<'a> = (&'a [u8], u32, u32, u32);
+/// What a training writes: book, knots and values.
+pub type Trained<'a> = (&'a mut [u8], &'a mut [u32], &'a mut [f64]);
