@@ -23,8 +23,9 @@ pub fn paths(steps: usize) -> Vec<Vec<Address>> {
 }
 
 /// Calls `each` with every list of up to four paths of up to two steps, and of two paths of up to
-/// three, with whole priors, with priors that lack something, and with tables that end early.
-pub fn each_short_list(mut each: impl FnMut(&CallList)) {
+/// three, with whole priors, with priors that lack something, and with tables that end early. Ends
+/// at the first that `each` fails on.
+pub fn each_short_list<E>(mut each: impl FnMut(&CallList) -> Result<(), E>) -> Result<(), E> {
     let mut rng = Rng::new(0);
     let gamma = tables::gamma(24);
     let whole = priors::whole(&mut rng, &ADDRESSES, 3);
@@ -34,19 +35,20 @@ pub fn each_short_list(mut each: impl FnMut(&CallList)) {
         for (capacities, size) in
             [(&[1, 2, 3, 4, 5, 6][..], (2, 3)), (&[5, 6][..], (2, 4)), (&[6][..], (3, 2))]
         {
-            each_list(&[0, 1, 2, 3], capacities, size, lent, &mut each);
+            each_list(&[0, 1, 2, 3], capacities, size, lent, &mut each)?;
         }
     }
+    Ok(())
 }
 
 /// Calls `each` with every list of exactly `adds` paths.
-pub fn each_list(
+fn each_list<E>(
     windows: &[u32],
     capacities: &[usize],
     (steps, adds): (usize, usize),
     (tables, priors): (&Tables, &PriorBytes),
-    mut each: impl FnMut(&CallList),
-) {
+    mut each: impl FnMut(&CallList) -> Result<(), E>,
+) -> Result<(), E> {
     let paths: Vec<Vec<u8>> = paths(steps).iter().map(|path| path_bytes(path)).collect();
     for window in windows {
         for capacity in capacities {
@@ -56,10 +58,11 @@ pub fn each_list(
                 calls.push(Call::LendPriors(priors.clone()));
                 calls.extend(chosen(&paths, adds, number));
                 calls.extend(readings());
-                each(&CallList { fill: 0xa5, calls });
+                each(&CallList { fill: 0xa5, calls })?;
             }
         }
     }
+    Ok(())
 }
 
 fn opening(window: u32, capacity: usize) -> Vec<Call> {

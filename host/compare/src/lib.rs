@@ -9,6 +9,7 @@ pub mod goko;
 pub mod goko;
 pub mod own;
 
+use cases::play::Answer;
 use recount::Refusal;
 use std::collections::BTreeMap;
 
@@ -44,6 +45,18 @@ impl Tally {
     pub fn result<T>(&mut self, result: &Result<T, Refusal>) {
         let number = result.as_ref().err().map_or(0, |refusal| refusal.number);
         *self.numbers.entry(number).or_default() += 1;
+    }
+
+    /// Counts an answer by its number; a lending has none.
+    pub fn answer(&mut self, answer: &Answer) {
+        match answer {
+            Answer::Lent => {}
+            Answer::Changed(result) => self.result(result),
+            Answer::Vector(result, _) => self.result(result),
+            Answer::Divergence(result) => self.result(result),
+            Answer::List(result, _) => self.result(result),
+            Answer::Stats(result) => self.result(result),
+        }
     }
 
     /// Adds what another tally counted.

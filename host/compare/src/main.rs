@@ -48,7 +48,7 @@ fn arguments() -> Option<(u64, u64)> {
 
 fn everything(lists: u64, seed: u64, tally: &mut Tally) -> Compared {
     recorded_sample(tally)?;
-    short_lists(tally)?;
+    exhaustive::each_short_list(|list| call_list_on_all(list, tally))?;
     for number in 0..lists {
         let mut rng = Rng::new(seed.wrapping_mul(1 << 32).wrapping_add(number));
         one_of_each(&mut rng, tally).map_err(|text| format!("seed {}, list {}: {}", seed, number, text))?;
@@ -73,17 +73,6 @@ fn recorded_sample(tally: &mut Tally) -> Compared {
         stats_on_both(&asked, tally)?;
     }
     sample::altered_adds().iter().try_for_each(|add| own::check_altered(add, tally))
-}
-
-/// Every short list.
-fn short_lists(tally: &mut Tally) -> Compared {
-    let mut result = Ok(());
-    exhaustive::each_short_list(|list| {
-        if result.is_ok() {
-            result = call_list_on_all(list, tally);
-        }
-    });
-    result
 }
 
 /// A call list, now and then a training, a baseline to ask, and adds on altered memory.

@@ -44,7 +44,7 @@ fn check_call(
 ) -> Compared {
     let before = shown(&bytes.side);
     let answer = bytes.play(call);
-    count_answer(&answer, tally);
+    tally.answer(&answer);
     let recounted = history.play(call);
     let (left, right) = (format!("{:?}", recounted), format!("{:?}", answer));
     must(left == right, &format!("the history answers {}, the bytes {}", left, right))?;
@@ -57,17 +57,6 @@ fn check_call(
             must(after == before, "a refused call or a reading changed the tracker")?;
             check_output(call, &answer)
         }
-    }
-}
-
-fn count_answer(answer: &Answer, tally: &mut Tally) {
-    match answer {
-        Answer::Lent => {}
-        Answer::Changed(result) => tally.result(result),
-        Answer::Vector(result, _) => tally.result(result),
-        Answer::Divergence(result) => tally.result(result),
-        Answer::List(result, _) => tally.result(result),
-        Answer::Stats(result) => tally.result(result),
     }
 }
 

@@ -118,17 +118,6 @@ fn play(archive: &mut Archive, call: &Call, fill: u8) -> Told<Answer> {
     })
 }
 
-fn count(answer: &Answer, tally: &mut Tally) {
-    match answer {
-        Answer::Lent => {}
-        Answer::Changed(result) => tally.result(result),
-        Answer::Vector(result, _) => tally.result(result),
-        Answer::Divergence(result) => tally.result(result),
-        Answer::List(result, _) => tally.result(result),
-        Answer::Stats(result) => tally.result(result),
-    }
-}
-
 /// A call list.
 pub fn list(archive: &mut Archive, list: &CallList, tally: &mut Tally) -> Compared {
     tally.lists += 1;
@@ -156,7 +145,7 @@ fn one_call(
 ) -> Told<Answer> {
     let answer = play(archive, call, fill)?;
     let recounted = history.play(call);
-    count(&recounted, tally);
+    tally.answer(&recounted);
     must(same_answer(&recounted, &answer), || differ("answer", &recounted, &answer))?;
     if let Answer::Changed(Ok(())) = answer {
         let side = &history.side;
@@ -184,7 +173,7 @@ pub fn altered(
     for call in readings_of(add, output) {
         let answer = play(archive, &call, 0)?;
         let recounted = read_altered(add, &call, tables, priors);
-        count(&recounted, tally);
+        tally.answer(&recounted);
         must(same_answer(&recounted, &answer), || {
             format!("{:?} on {:?}\n{}", call, add, differ("answer", &recounted, &answer))
         })?;

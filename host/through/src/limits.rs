@@ -22,23 +22,13 @@ pub fn all(archive: &mut Archive, tally: &mut Tally) -> Compared {
     sample::stats_asked().iter().try_for_each(|asked| check::stats(archive, asked, tally))?;
     sample::table_cases().iter().try_for_each(|tables| check::tables(archive, tables, tally))?;
     sample::priors_cases().iter().try_for_each(|case| check::priors(archive, &case.priors, tally))?;
-    short_lists(archive, tally)?;
+    exhaustive::each_short_list(|list| check::list(archive, list, tally))?;
     table_lengths(archive, tally)?;
     prior_sizes(archive, tally)?;
     knots(archive, tally)?;
     [1_023, 1_024].iter().try_for_each(|window| {
         check::list(archive, &call_list(&mut Rng::new(u64::from(*window)), &Shape::long(*window)), tally)
     })
-}
-
-fn short_lists(archive: &mut Archive, tally: &mut Tally) -> Compared {
-    let mut result = Ok(());
-    exhaustive::each_short_list(|list| {
-        if result.is_ok() {
-            result = check::list(archive, list, tally);
-        }
-    });
-    result
 }
 
 const NODE: Address = Address::new(1, 7);
