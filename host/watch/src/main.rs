@@ -7,6 +7,7 @@
 mod day;
 mod gamma;
 mod progress;
+mod refused;
 mod report;
 mod work;
 
@@ -43,7 +44,8 @@ fn show(text: &str) -> ExitCode {
 }
 
 fn watch(file: &str) -> Result<String, String> {
-    let text = std::fs::read_to_string(file).map_err(|error| format!("cannot be read: {}", error))?;
-    let day = day::read(&text).map_err(|problem| format!("line {}: {}", problem.line, problem.text))?;
-    Ok(report::report(file, &day, &work::watch(&day)?))
+    let bytes = std::fs::read(file).map_err(|error| format!("cannot be read: {}", error))?;
+    let day = day::read(&bytes).map_err(|problem| problem.to_string())?;
+    let watched = work::watch(&day).map_err(|problem| problem.to_string())?;
+    Ok(report::report(file, &day, &watched))
 }

@@ -1,16 +1,15 @@
 //! Runs a day through the archive: trains the baseline, adds the paths one by one, reads the
 //! statistics after each and holds them against the baseline, and notes where they drift.
 
-use crate::day::{Day, Path, TableRule};
+use crate::day::{Day, Path, Problem, TableRule, MAX_ENTRIES, MAX_LAST};
 use crate::gamma;
 use crate::progress::{during, Steps};
+use crate::refused::told;
 use teakpool::{
     path_bytes, place_bytes, Address, Baseline, BaselineStats, KLDivergenceStats, MeanVariance, Output,
     PriorRecords, Priors, Refusal, Sequences, Tables, Tracker, ENTRY_BYTES, KNOT_VALUES, PLACE_BYTES,
 };
 
-const MAX_ENTRIES: usize = 16_384;
-const MAX_LAST: u64 = 1_048_575;
 /// Drifting paths with fewer than this between them are one stretch.
 const GAP: usize = 5;
 
@@ -72,9 +71,9 @@ struct LentParts {
 impl LentParts {
     fn of(day: &Day) -> LentParts {
         let (g, d) = match &day.tables {
-            TableRule::Gamma => gamma::tables(day.last_index().clamp(1, MAX_LAST) as usize),
+            TableRule::Gamma => gamma::tables(day.last_index().clamp(1, MAX_LAST as u64) as usize),
             TableRule::Squares(last) => (0..=*last).map(|k| ((k * k) as f64, (4 * k) as f64)).unzip(),
-            TableRule::Numbers { g, d } => (g.clone(), d.clone()),
+            TableRule::Numbers { g, d } => (g.values.clone(), d.values.clone()),
         };
         let mut records = PriorRecords::default();
         for (node, prior) in &day.priors {
@@ -92,14 +91,18 @@ impl LentParts {
     fn priors(&self) -> Priors<'_> {
         self.records.lent()
     }
+
+    fn last_index(&self) -> u64 {
+        self.g.len() as u64 - 1
+    }
 }
 
-/// Runs the day; a refusal is told with the line of its path.
-pub fn watch(day: &Day) -> Result<Watched, String> {
+/// Runs the day; a refusal is told with the line to look at.
+pub fn watch(day: &Day) -> Result<Watched, Problem> {
     let lent = LentParts::of(day);
-    lent.tables().check().map_err(|refusal| format!("the tables: {}", refusal))?;
-    lent.priors().check().map_err(|refusal| format!("the priors: {}", refusal))?;
-    let capacity = day.capacity.unwrap_or_else(|| day.entries().min(MAX_ENTRIES));
+    let told_at = |path| told(day, lent.last_index(), path);
+    let (first, last) = day.paths.first().zip(day.paths.last()).expect("the reader wants a path");
+    let capacity = day.capacity.map_or_else(|| day.entries().min(MAX_ENTRIES), |capacity| capacity.value);
     let mut book = vec![0; ENTRY_BYTES * capacity];
     let (mut knots, mut values) = (vec![0; 1_024], vec![0.0; KNOT_VALUES * 1_024]);
     let baseline = train(day, &lent, &mut book, &mut knots, &mut values)?;
@@ -116,17 +119,15 @@ pub fn watch(day: &Day) -> Result<Watched, String> {
         skipped: 0,
     };
     let mut queue = vec![0; PLACE_BYTES * day.window as usize];
-    let mut tracker =
-        Tracker::open(day.window, &mut book, &mut queue).map_err(|refusal| refusal.to_string())?;
+    let mut tracker = Tracker::open(day.window, &mut book, &mut queue).map_err(told_at(first))?;
     let mut steps = Steps::new("the day's paths", day.paths.len());
     for (index, path) in day.paths.iter().enumerate() {
-        let told = |refusal: Refusal| format!("line {}: {}", path.line, refusal);
-        tracker.add_path(&path_bytes(&path.steps)).map_err(told)?;
-        let reading = read(&tracker, &lent, baseline).map_err(told)?;
+        tracker.add_path(&path_bytes(&path.steps)).map_err(told_at(path))?;
+        let reading = read(&tracker, &lent, baseline).map_err(told_at(path))?;
         if let Some(deviations) = reading.deviations.filter(|deviations| *deviations > day.drift) {
             let worse = note(&mut watched.stretches, index, deviations);
             if worse {
-                let moved = moved_nodes(&tracker, &lent, day).map_err(told)?.0;
+                let moved = moved_nodes(&tracker, &lent, day).map_err(told_at(path))?.0;
                 let most = moved.into_iter().max_by(|one, other| one.divergence.total_cmp(&other.divergence));
                 watched.stretches.last_mut().expect("one was noted").moved = most;
             }
@@ -134,8 +135,7 @@ pub fn watch(day: &Day) -> Result<Watched, String> {
         watched.readings.push(reading);
         steps.at(index + 1);
     }
-    (watched.nodes, watched.skipped) =
-        moved_nodes(&tracker, &lent, day).map_err(|refusal| refusal.to_string())?;
+    (watched.nodes, watched.skipped) = moved_nodes(&tracker, &lent, day).map_err(told_at(last))?;
     Ok(watched)
 }
 
@@ -146,19 +146,38 @@ fn train<'a>(
     book: &mut [u8],
     knots: &'a mut [u32],
     values: &'a mut [f64],
-) -> Result<Option<Baseline<'a>>, String> {
+) -> Result<Option<Baseline<'a>>, Problem> {
     let n = day.sequences.first().map_or(0, Vec::len);
     if n == 0 {
         return Ok(None);
     }
     let place = |path: &Path| place_bytes(&path.steps);
     let places: Vec<u8> = day.sequences.iter().flatten().flat_map(place).collect();
-    let rate = day.rate.unwrap_or((n as u32 / 8).max(1));
+    let rate = day.rate.map_or((n as u32 / 8).max(1), |rate| rate.value);
     let sequences = Sequences { s: day.sequences.len() as u32, n: n as u32, rate, places: &places };
     let trained = during("the training", || {
         Baseline::train(lent.tables(), lent.priors(), sequences, book, knots, values)
+            .map_err(|refusal| where_stopped(day, lent, book, rate, refusal))
     });
-    trained.map(Some).map_err(|refusal| format!("the training: {}", refusal))
+    trained.map(Some)
+}
+
+/// A training tells no path, so its steps are taken again one by one, up to the one that is
+/// refused.
+fn where_stopped(day: &Day, lent: &LentParts, book: &mut [u8], rate: u32, stopped: Refusal) -> Problem {
+    let told_at = |path| told(day, lent.last_index(), path);
+    let first = day.sequences.iter().flatten().next().expect("there is something to train with");
+    let again = day.sequences.iter().try_for_each(|sequence| {
+        let mut tracker = Tracker::open(0, book, &mut []).map_err(told_at(first))?;
+        sequence.iter().zip(0_u32..).try_for_each(|(path, index)| {
+            tracker.add_path(&path_bytes(&path.steps)).map_err(told_at(path))?;
+            if index % rate == 0 {
+                tracker.kl_div_stats(lent.tables(), lent.priors()).map_err(told_at(path))?;
+            }
+            Ok(())
+        })
+    });
+    again.err().unwrap_or_else(|| told_at(first)(stopped))
 }
 
 fn read(tracker: &Tracker, lent: &LentParts, baseline: Option<Baseline>) -> Result<Reading, Refusal> {
@@ -237,4 +256,69 @@ fn most_moved(tracker: &Tracker, day: &Day, node: Address) -> Result<Option<Shar
     });
     let change = |share: &Share| (share.now - share.prior).abs();
     Ok(children.chain([ending]).reduce(|one, other| if change(&other) > change(&one) { other } else { one }))
+}
+
+#[cfg(test)]
+mod tests {
+    use super::watch;
+    use crate::day::{read, Problem};
+
+    fn outcome(text: &str) -> Result<(), (usize, String)> {
+        let day = read(text.as_bytes()).expect("every line can be taken");
+        watch(&day).map(|_| ()).map_err(|Problem { line, text }| (line, text))
+    }
+
+    fn problem(text: &str) -> (usize, String) {
+        outcome(text).expect_err("a path cannot be taken")
+    }
+
+    const KIT: &str = "tables squares 7\nprior 1/7 1 0/7 2 0/9 3\n";
+
+    /// Paths of 64 new steps each, so of 127 entries: the first 129 fit in a book.
+    fn many_nodes(paths: u32) -> String {
+        let step = |number: u32| format!(" 0/{}", number);
+        let path =
+            |number: u32| format!("path{}\n", (64 * number..64 * number + 64).map(step).collect::<String>());
+        (0..paths).map(path).collect()
+    }
+
+    #[test]
+    fn a_path_past_the_tables() {
+        let day = format!("{}day\npath 1/7 0/9\npath 0/9\npath 1/7\n", KIT);
+        let text = "the counts of 1/7, in its prior and in the paths up to this one, pass 7, \
+                    the last index of the tables";
+        assert_eq!(problem(&day), (6, text.to_string()));
+        assert_eq!(outcome(&format!("window 1\n{}", day)), Ok(()));
+    }
+
+    #[test]
+    fn a_training_past_the_tables() {
+        let paths = "path 0/9\npath 0/9\npath 0/9\n";
+        let sequences = format!("sequence\n{}sequence\npath 1/7\npath 1/7\npath 0/9\n", paths);
+        let training = |rate: u32| format!("{}rate {}\n{}day\n{}", KIT, rate, sequences, paths);
+        assert_eq!(problem(&training(1)).0, 10);
+        // With this rate the second path of a sequence is not read, the third is.
+        assert_eq!(problem(&training(2)).0, 11);
+        assert_eq!(outcome(&training(3)), Ok(()));
+    }
+
+    #[test]
+    fn a_prior_past_the_tables() {
+        let prior = "prior 0/1 1\nprior 0/2 2000000\n";
+        let text = "the counts of this prior come to 2000000, and the last index of the tables is 1048575";
+        assert_eq!(problem(&format!("{}day\npath 0/1\npath 0/2", prior)), (2, text.to_string()));
+        assert_eq!(problem(&format!("{}sequence\npath 0/2\nday\npath 0/1", prior)), (2, text.to_string()));
+        assert_eq!(outcome(&format!("{}day\npath 0/1", prior)), Ok(()));
+        assert_eq!(problem("tables numbers\ng 0 0\nd 0 0\nprior 0/1 1\nday\npath 0/1").0, 4);
+    }
+
+    #[test]
+    fn a_book_that_is_too_small() {
+        let text = "up to this path there are over 16384 nodes and transitions, more than a book holds";
+        assert_eq!(outcome(&format!("day\n{}", many_nodes(129))), Ok(()));
+        assert_eq!(problem(&format!("day\n{}", many_nodes(131))), (131, text.to_string()));
+        let (few, many) = ("path 0/0\n".repeat(131), many_nodes(131));
+        let training = format!("sequence\n{}sequence\n{}day\npath 0/0", few, many);
+        assert_eq!(problem(&training), (263, text.to_string()));
+    }
 }
