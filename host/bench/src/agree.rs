@@ -55,7 +55,8 @@ pub fn vector(ours: Option<ProbVector>, output: &Output, theirs: Option<oracle::
 
 /// Statistics are goko's. With a hash map its sums go in another order.
 pub fn stats(ours: &KLDivergenceStats, goko: &Goko) {
-    let theirs = goko.kl_div_stats().expect("goko answers");
+    let (theirs, skipped) = goko.kl_div_stats().expect("goko answers");
+    assert_eq!(ours.skipped, skipped, "both skip as many nodes");
     assert_eq!(
         (ours.maximum, ours.minimum, ours.number),
         (theirs.max, theirs.min, theirs.nz_count),

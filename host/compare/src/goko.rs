@@ -197,8 +197,9 @@ impl Beside {
 
     fn stats(&self, answer: Result<recount::KLDivergenceStats, Refusal>, tally: &mut Tally) -> Compared {
         match (answer, self.0.kl_div_stats()) {
-            (Ok(ours), Ok(theirs)) => {
+            (Ok(ours), Ok((theirs, skipped))) => {
                 tally.readings += 1;
+                equal("skipped", u64::from(ours.skipped), skipped)?;
                 same(tally, "maximum", ours.max, theirs.max)?;
                 same(tally, "minimum", ours.min, theirs.min)?;
                 same(tally, "sum", ours.moment1_nz, theirs.moment1_nz)?;

@@ -125,9 +125,10 @@ impl Goko {
         caught(|| self.tracker.all_node_kl()).map(|list| (list, take_lines()))
     }
 
-    /// `kl_div_stats`.
-    pub fn kl_div_stats(&self) -> Result<KLDivergenceStats, Panic> {
-        caught(|| self.tracker.kl_div_stats())
+    /// `kl_div_stats`, with the number of lines that goko prints for nodes without a prior.
+    pub fn kl_div_stats(&self) -> Result<(KLDivergenceStats, u64), Panic> {
+        take_lines();
+        caught(|| self.tracker.kl_div_stats()).map(|stats| (stats, take_lines()))
     }
 }
 

@@ -131,4 +131,6 @@ fn skipped_nodes_are_counted_by_the_printed_lines() {
     let goko = after(prior(NODE, 1, &[(CHILD, 1)]), 4, &[NODE, CHILD]);
     let (list, skipped) = goko.all_node_kl().unwrap();
     assert_eq!((list.len(), skipped), (1, 1));
+    let (stats, skipped) = goko.kl_div_stats().unwrap();
+    assert_eq!((stats.sequence_len, skipped), (1, 1));
 }

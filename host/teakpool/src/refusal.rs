@@ -163,3 +163,57 @@ pub(crate) fn done(answer: u32, node: Address) -> Result<(), Refusal> {
         number => Err(Refusal::of(number, node)),
     }
 }
+
+#[cfg(test)]
+mod tests {
+    use super::Refusal;
+    use crate::Address;
+    use std::panic::catch_unwind;
+
+    /// The last column of document 01's table, from 1 to 18.
+    const TABLE: [&str; 18] = [
+        "lengths unequal, under 2 or over 1,048,576",
+        "an entry from index 1 on not within -2^40 to 2^40",
+        "bytes no multiple of 16; over 4,096 nodes or 16,384 children",
+        "nodes not strictly ascending",
+        "link past the last record or not rising; chain over 64",
+        "chain not strictly ascending",
+        "child count 0, or node total 0",
+        "window asked of an opening over 1,024",
+        "book no multiple of 24, empty or over 16,384 entries; queue under 516 × window bytes; form broken",
+        "path not 1 to 64 whole steps",
+        "16,777,216 paths accepted",
+        "listed nodes plus transitions would exceed capacity",
+        "output holds fewer places than the answer",
+        "evidence child, zero count included, not in the prior (goko panics)",
+        "U past the last table index",
+        "rate 0; s, n or byte count wrong; over 1,024 knots",
+        "s not 1 to 64; knots not rising or over 1,024; values not ten a knot",
+        "one knot and a length past it",
+    ];
+
+    #[test]
+    fn every_number_has_the_tables_words() {
+        let node = Address::new(-1, 7);
+        for (number, when) in (1..).zip(TABLE) {
+            let refusal = Refusal::of(number, node);
+            assert_eq!(refusal.number(), number);
+            // What goko does is no part of a refusal.
+            let when = when.trim_end_matches(" (goko panics)");
+            assert_eq!(refusal.wording(), when, "{}", number);
+            let (named, end) = match number {
+                14 | 15 => (Some(node), ", at node -1/7"),
+                _ => (None, ""),
+            };
+            assert_eq!(refusal.node(), named, "{}", number);
+            assert_eq!(refusal.to_string(), format!("refusal {}: {}{}", number, when, end));
+        }
+    }
+
+    #[test]
+    fn no_other_number_is_a_refusal() {
+        for number in [0, 19, 100] {
+            assert!(catch_unwind(|| Refusal::of(number, Address::default())).is_err(), "{}", number);
+        }
+    }
+}

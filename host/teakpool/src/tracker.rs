@@ -282,6 +282,31 @@ impl<'m> Tracker<'m> {
     }
 
     /// The divergences of all listed nodes that have a prior, ascending: 1 to 7, 9, 13, 14, 15.
+    ///
+    /// ```
+    /// use teakpool::*;
+    ///
+    /// let (g, d): (Vec<f64>, Vec<f64>) =
+    ///     (0..8).map(|k| (f64::from(k * k), f64::from(4 * k))).unzip();
+    /// let tables = Tables { g: &g, d: &d };
+    /// let (node, child) = (Address::new(1, 7), Address::new(0, 9));
+    /// let mut records = PriorRecords::default();
+    /// records.node(node, 1, &[(Address::new(0, 7), 2), (child, 3)]);
+    /// let mut book = [0; 3 * ENTRY_BYTES];
+    /// let mut tracker = Tracker::open(0, &mut book, &mut [])?;
+    /// tracker.add_path(&path_bytes(&[node, child]))?;
+    ///
+    /// let mut output = Output { addresses: &mut [0; 8], figures: &mut [0.0] };
+    /// let list = tracker.all_node_kl(tables, records.lent(), &mut output)?;
+    /// // The child is listed as well, and has no prior.
+    /// assert_eq!(list, NodeKlList { places: 1, skipped: 1 });
+    /// assert_eq!(output.places(list.places).collect::<Vec<_>>(), [(node, 6.0)]);
+    ///
+    /// let mut none = Output { addresses: &mut [], figures: &mut [] };
+    /// let answer = tracker.all_node_kl(tables, records.lent(), &mut none);
+    /// assert_eq!(answer, Err(Refusal::OutputShort));
+    /// # Ok::<(), Refusal>(())
+    /// ```
     pub fn all_node_kl(
         &self,
         tables: Tables,

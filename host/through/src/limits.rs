@@ -18,6 +18,9 @@ pub fn all(archive: &mut Archive, tally: &mut Tally) -> Compared {
     for list in sample::call_lists().into_iter().chain(sample::large_lists()).chain(sample::reading_lists()) {
         check::list(archive, &list, tally)?;
     }
+    let output = Places { addresses: vec![0x11; 64], figures: vec![-1.0; 8] };
+    let beside = (&tables::gamma(40), &PriorBytes::default(), &output);
+    sample::altered_adds().iter().try_for_each(|add| check::altered(archive, add, beside, tally))?;
     sample::trainings().iter().try_for_each(|training| check::training(archive, training, tally))?;
     sample::stats_asked().iter().try_for_each(|asked| check::stats(archive, asked, tally))?;
     sample::table_cases().iter().try_for_each(|tables| check::tables(archive, tables, tally))?;
