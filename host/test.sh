@@ -3,8 +3,21 @@
 # recorded sample; then what goes through the archive: the crate over it with its examples, the
 # comparison at scale, and the example day. Fails at the first failure. Needs no network. Without
 # goko's sources, or without the archive and rt, it says so in a line and goes on.
+#
+#     test.sh [--lists N] [--seed S] [--long]
+#
+# '--lists' and '--seed' go to both comparisons, '--long' to the one at scale alone.
 set -eu
 cd "$(dirname "$0")"
+
+long=
+for word in "$@"; do
+    shift
+    case $word in
+    --long) long=--long ;;
+    *) set -- "$@" "$word" ;;
+    esac
+done
 
 cargo build --release --offline --quiet
 cargo test --release --offline --quiet --test '*'
@@ -18,6 +31,13 @@ for file in ../vectors/*.bin; do
     cmp "$file" "target/vectors/$(basename "$file")"
 done
 
+# Help and a missing file are answered without the archive.
+TEAKPOOL_ARCHIVE=none ../run --help | tail -n +3 | diff watch/src/format.txt -
+if TEAKPOOL_ARCHIVE=none ../run target/none 2> target/none.out; then
+    exit 1
+fi
+echo "target/none: there is no such file" | diff - target/none.out
+
 archive=${TEAKPOOL_ARCHIVE:-../target/staticlib/libexports.a}
 if [ -f "$archive" ] || { [ -d ../crates/exports ] && command -v rt >/dev/null; }; then
     ../run > target/example.out
@@ -25,7 +45,7 @@ if [ -f "$archive" ] || { [ -d ../crates/exports ] && command -v rt >/dev/null; 
     echo "the example day: the report is the stored one"
     cargo test --release --offline --quiet -p teakpool -p watch
     sed -n '/^```rust$/,/^```$/p' ../README.md | sed '/^```/d' | diff - teakpool/examples/readme.rs
-    cargo run --release --offline --quiet -p through -- "$@"
+    cargo run --release --offline --quiet -p through -- $long "$@"
 else
     echo "neither the archive nor what builds it is there: what goes through the archive is left out"
 fi

@@ -58,6 +58,7 @@ fn main() -> ExitCode {
         eprintln!("usage: through [--lists N] [--long] [--seed S] [--threads T]");
         return ExitCode::from(2);
     };
+    let started = Instant::now();
     match everything(&given) {
         Ok((tally, calls)) => {
             println!(
@@ -67,6 +68,7 @@ fn main() -> ExitCode {
             );
             println!("results by refusal number, 0 for an answer: {:?}", tally.numbers);
             tally.print_goko();
+            println!("the comparison at scale took {} s", started.elapsed().as_secs());
             ExitCode::SUCCESS
         }
         Err(difference) => {
