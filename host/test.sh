@@ -46,6 +46,7 @@ if [ -f "$archive" ] || { [ -d ../crates/exports ] && command -v rt >/dev/null; 
     cargo test --release --offline --quiet -p teakpool -p watch
     sed -n '/^```rust$/,/^```$/p' ../README.md | sed '/^```/d' | diff - teakpool/examples/readme.rs
     cargo run --release --offline --quiet -p through -- $long "$@"
+    cargo check --release --offline --quiet -p bench
 else
     echo "neither the archive nor what builds it is there: what goes through the archive is left out"
 fi

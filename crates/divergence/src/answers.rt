@@ -1,4 +1,4 @@
-// What each reading answers: a value, none where goko gives None, or the refusal.
+// What each reading answers: a value, none, or the refusal.
 use crate::statistics::KLDivergenceStats;
 use priors::refusals::Refusal;
 

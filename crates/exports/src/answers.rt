@@ -21,7 +21,7 @@ use priors::refusals::Checked;
 use priors::refusals::Refusal;
 use priors::refusals::number;
 
-// goko's None.
+// There is no answer, as with a node that has no prior.
 pub const NONE: u32 = 100;
 
 // The tracker with these numbers: window, entries used, paths accepted.

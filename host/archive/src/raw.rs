@@ -1,26 +1,29 @@
 //! The archive's functions as C declares them; `include/teakpool.h` has the same list. A lent
 //! slice is a pointer and a number of elements, a lent array or number is one pointer. Each
-//! returns 0 where the call is carried out, `NONE` for goko's `None`, else the refusal's number.
+//! returns 0 where the call is carried out, `NONE` where there is no answer, else the refusal's
+//! number.
 //!
 //! No proof reaches across this boundary. What every caller promises: a pointer is aligned for
 //! its type and not null, also where the slice is empty; the number of elements is true; the
 //! memory is readable, and writable behind `*mut`, until the call returns; nothing behind a
-//! `*mut` overlaps anything else lent to the same call. The functions keep nothing.
+//! `*mut` overlaps anything else lent to the same call, while what lies behind `*const` may
+//! overlap; until the call returns no other thread writes what it is lent or reads what it
+//! writes. The functions keep nothing.
 
-/// What a call returns for goko's `None`.
+/// What a call returns where there is no answer, as with a node that has no prior.
 pub const NONE: u32 = 100;
 
 extern "C" {
     /// Refusals 1 and 2 of two tables.
     ///
     /// # Safety
-    /// `g` and `d` are slices as the module says; they may be the same memory.
+    /// `g` and `d` are slices as the module says.
     pub fn teakpool_check_tables(g: *const f64, g_len: usize, d: *const f64, d_len: usize) -> u32;
 
     /// Refusals 3 to 7 of node records and child records.
     ///
     /// # Safety
-    /// `nodes` and `children` are slices as the module says; they may be the same memory.
+    /// `nodes` and `children` are slices as the module says.
     pub fn teakpool_check_priors(
         nodes: *const u8, nodes_len: usize, children: *const u8, children_len: usize,
     ) -> u32;

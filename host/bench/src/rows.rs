@@ -103,22 +103,19 @@ fn one_node(load: &mut Load, ours: &Tracker, theirs: &Goko, rounds: usize) {
         (one, other)
     };
     row("prob_vector", rounds, || {
-        each(
-            &mut |node| let_go(black_box(ours.prob_vector(priors, node, &mut output))),
-            &|node| let_go(black_box(theirs.prob_vector(node))),
-        )
+        each(&mut |node| let_go(black_box(ours.prob_vector(priors, node, &mut output))), &|node| {
+            let_go(black_box(theirs.prob_vector(node)))
+        })
     });
     row("evidence_prob_vector", rounds, || {
-        each(
-            &mut |node| let_go(black_box(ours.evidence_prob_vector(node, &mut output))),
-            &|node| let_go(black_box(theirs.evidence_prob_vector(node))),
-        )
+        each(&mut |node| let_go(black_box(ours.evidence_prob_vector(node, &mut output))), &|node| {
+            let_go(black_box(theirs.evidence_prob_vector(node)))
+        })
     });
     row("posterior_kl_divergence", rounds, || {
-        each(
-            &mut |node| let_go(black_box(ours.posterior_kl_divergence(tables, priors, node))),
-            &|node| let_go(black_box(theirs.posterior_kl_divergence(node))),
-        )
+        each(&mut |node| let_go(black_box(ours.posterior_kl_divergence(tables, priors, node))), &|node| {
+            let_go(black_box(theirs.posterior_kl_divergence(node)))
+        })
     });
 }
 

@@ -1,5 +1,6 @@
 //! The cases of the recorded sample in `vectors/`: fixed seeds, small sizes, so that a reader
-//! with fixed buffers can replay them. The comparison with goko runs the same cases.
+//! with fixed buffers can replay them. The comparison with goko runs the call lists, trainings and
+//! baselines among them.
 
 use crate::altered::{altered_add, AlteredAdd};
 use crate::baselines::{self, StatsAsked, Training};

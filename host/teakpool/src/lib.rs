@@ -4,7 +4,7 @@
 //! allocated below the functions here, and nothing is kept between calls.
 //!
 //! A call that is turned back gives a `Refusal` and changes nothing that it was lent, but for a
-//! training that has begun. A reading that goko answers with `None` gives `Ok(None)`.
+//! training that has begun. A reading that has no answer gives `Ok(None)`.
 
 #![forbid(unsafe_code)]
 
