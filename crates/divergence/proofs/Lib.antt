@@ -24,3 +24,5 @@ pub mod RecountNodeLaws
 pub mod Claimed
 pub mod NumberLaws
 pub mod Corollaries
+-- `IndexZero` has that no reading reads index 0 of a table.
+pub mod IndexZero

@@ -1,15 +1,17 @@
 -- What follows from the claim, without the recount: H and W are read off the openings and adds and their answers, readings leave no trace, what a reading answers is
--- told by W, H and what it is lent, and adds and readings never get 9. Assumes nothing.
+-- told by W, H and what it is lent, and adds and readings never get 9. And from the definitions alone: no reading reads index 0 of a table. Assumes nothing.
 use Prim.Native.Nat.{ℕ}
 use mathlib.Core.Path.{_≡_}
 use mathlib.Core.List.{List, [], _∷_}
+use lib.Ieee.{Float}
 use Rattle.book.specs.Calls.{openNumber}
 use Rattle.book.specs.Recount.{sequenceLength}
 use Rattle.book.specs.Figures.{All}
 use Rattle.book.specs.Claims.{BookCall, opening, add, BookAnswer, Machine, bookStep, runs}
 use Rattle.book.specs.Corollaries.{acceptedSince, windowSince}
+use Rattle.divergence.specs.Nodes.{Node}
 use Rattle.divergence.specs.RecountNodes.{recountNodes}
-use Rattle.divergence.specs.Readings.{Reading, refused, nothing, answered}
+use Rattle.divergence.specs.Readings.{Reading, refused, nothing, answered, klReading, allReading, statsReading}
 use Rattle.divergence.specs.Claims.{ReadingCall, Call, change, read, Answer, changed, vector, kl, allKl, stats, readingAnswer, step, CallInBytes}
 
 -- ---- readings leave no trace
@@ -73,3 +75,17 @@ Corollary =
     let W = windowSince 0 (changesOf all) (changedAnswers (ran .0)) in
     let H = acceptedSince [] (changesOf all) (changedAnswers (ran .0)) in
     ((call : ReadingCall) → step (ran .1) (read call) .0 ≡ readingAnswer 0 (recountNodes W H) (sequenceLength W H) call) × NeverNine all (ran .0)
+
+-- ---- index 0 of the tables
+
+-- what is made of two tables stays the same whatever stands at index 0 of either
+abbrev pub ZeroUnread : {X : Type 0} → (List Float → List Float → X) → Type 0
+ZeroUnread made = (g g′ d d′ : Float) (G D : List Float) → made (g ∷ G) (d ∷ D) ≡ made (g′ ∷ G) (d′ ∷ D)
+
+-- so does the answer of each reading that is lent the tables, whatever else it is lent
+abbrev pub IndexZeroUnread : Type 0
+IndexZeroUnread =
+    (form : ℕ) (nodes children : List ℕ) (ns : List Node) (rank have len : ℕ)
+    → ZeroUnread (λ G D. klReading form G D nodes children ns rank)
+    × ZeroUnread (λ G D. allReading form G D nodes children ns have)
+    × ZeroUnread (λ G D. statsReading form G D nodes children ns len)

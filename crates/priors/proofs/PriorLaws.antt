@@ -1,19 +1,21 @@
--- What accepted priors tell: nodes ascend, links rise, and the chain of a node that is found fits, so that its total does. Assumes nothing.
+-- What accepted priors tell: nodes ascend, links rise, the chain of a node that is found fits, so that its total does, and neither its total nor a
+-- child's count is 0. Assumes nothing.
 use mathlib.Core.Path.{_≡_, refl, sym, ap, _∙_}
 use mathlib.Core.Bool.{Bool, true, false, cond}
-use Prim.Native.Nat.{ℕ, zero, suc, _+_, _*_, _^_, _≤_, _<_}
+use Prim.Native.Nat.{ℕ, zero, suc, _+_, _*_, _^_, _≤_, _<_, compare, Ordering, Ordering·lt, Ordering·eq, Ordering·gt}
 use native.Mathlib.Omega.{arith}
 use mathlib.Core.List.{List, [], _∷_, map}
-use mathlib.Core.Option.{Option, none, some}
-use lib.Dec.{eqb, leb}
+use mathlib.Core.Option.{Option, none, some, Option·map}
+use lib.Dec.{eqb, leb, ltb}
 use lib.ListN.{length, getD}
-use borrow.Author.Tests.{leb-true}
+use borrow.Author.Tests.{leb-true, ltb-true}
 use Rattle.priors.specs.Limits.{maxChain, maxNodes, maxChildren}
 use Rattle.priors.specs.declared.records.Record.{Record}
-use Rattle.priors.specs.Rows.{row}
-use Rattle.priors.specs.Priors.{recordAt, recordCount, records, ascends, findRecord, chain, chainOf, countSum, total, priorOfNode, wholeRecords, firstLinkFits, nextLinkFits, chainFits, chainAscends, countFits, totalFits, everyNode, everyChild, priorsRefusal}
+use Rattle.priors.specs.Rows.{row, choose, look}
+use Rattle.priors.specs.Priors.{recordAt, recordCount, records, ascends, findRecord, chain, chainOf, Counts, countSum, total, priorOf, priorOfNode, wholeRecords, firstLinkFits, nextLinkFits, chainFits, chainAscends, countFits, totalFits, everyNode, everyChild, priorsRefusal}
 use Rattle.priors.proofs.Ranks.{Bytes, word-lt}
 use Rattle.priors.proofs.BelowLaws.{all-at}
+use Rattle.priors.proofs.ChainLaws.{next-small}
 use Rattle.priors.proofs.RecordLaws.{noRecord, length-records, getD-records}
 
 -- a rule that is not the first broken one holds, and so do those after it
@@ -57,22 +59,60 @@ found-in k (x ∷ rs) r h = go (eqb (x .rank) k) h (found-in k rs r)
     go true h on = (0, (omega arith, cc))
     go false h on = let p = on h in (suc (p .0), (omega (arith, p .1 .0), p .1 .1))
 
+-- a rule that every node record keeps holds for one that is found
+found-keeps : (nodes : List ℕ) (test : Record → Bool) → everyNode nodes (λ i. test (recordAt nodes i)) ≡ true → (k : ℕ) (r : Record) → findRecord k (records nodes) ≡ some r → test r ≡ true
+found-keeps nodes test all k r h =
+    let p = found-in k (records nodes) r h in
+    let l : p .0 < recordCount nodes = omega (arith, length-records nodes, p .1 .0) in
+    let is : recordAt nodes (p .0) ≡ r = sym (getD-records nodes (p .0) l) ∙ p .1 .1 in
+    ap test (sym is) ∙ all-at (λ i. test (recordAt nodes i)) (recordCount nodes) (p .0) all l
+
 -- the chain of a node that is found: its first link is a record's number or 0, and it has at most 64 records
 pub record ChainFits (children : List ℕ) (node : Record) : Type 0 where
   pub link-fits : node .link ≤ recordCount children
   pub short : length (chainOf children (node .link)) ≤ maxChain
 
+-- a prior with a total that is not 0, and no child's count that is
+pub record Positive (p : Counts) : Type 0 where
+  pub total-positive : 0 < total p
+  pub count-positive : (k c : ℕ) → look k (p .children) ≡ some c → 0 < c
+
 module _ (nodes children : List ℕ) (ok : Accepted nodes children) where
   pub found-fits : (k : ℕ) (r : Record) → findRecord k (records nodes) ≡ some r → ChainFits children r
   unfolding firstLinkFits chainFits
-  found-fits k r h =
-      let p = found-in k (records nodes) r h in
-      let l : p .0 < recordCount nodes = omega (arith, length-records nodes, p .1 .0) in
-      let is : recordAt nodes (p .0) ≡ r = sym (getD-records nodes (p .0) l) ∙ p .1 .1 in
-      record {
-        link-fits = rw (ap (λ (x : Record). x .link) is) at (leb-true (recordAt nodes (p .0) .link) (recordCount children) (all-at (firstLinkFits nodes children) (recordCount nodes) (p .0) (ok .firsts) l));
-        short = rw (ap (λ (x : Record). x .link) is) at (leb-true (length (chainOf children (recordAt nodes (p .0) .link))) maxChain (all-at (chainFits nodes children) (recordCount nodes) (p .0) (ok .lengths) l));
-      }
+  found-fits k r h = record {
+    link-fits = leb-true (r .link) (recordCount children) (found-keeps nodes (λ n. leb (n .link) (recordCount children)) (ok .firsts) k r h);
+    short = leb-true (length (chainOf children (r .link))) maxChain (found-keeps nodes (λ n. leb (length (chainOf children (n .link))) maxChain) (ok .lengths) k r h);
+  }
+
+  -- the records of a chain keep 7
+  chain-positive : (n link : ℕ) → link ≤ recordCount children → (k c : ℕ) → look k (map (λ (r : Record). row (r .rank) (r .count)) (chain children n link)) ≡ some c → 0 < c
+  unfolding chain look countFits
+  chain-positive zero link l k c h = let z : _≡_ {A = ℕ} 0 1 = cc in absurd (omega arith)
+  chain-positive (suc n) zero l k c h = let z : _≡_ {A = ℕ} 0 1 = cc in absurd (omega arith)
+  chain-positive (suc n) (suc i) l k c h =
+      go (compare k (recordAt children i .rank)) h (chain-positive n (recordAt children i .link) (next-small children (ok .rising) i (omega arith)) k c)
+    where
+      go : {rest : Option ℕ} (o : Ordering) → choose o none (some (recordAt children i .count)) rest ≡ some c → (rest ≡ some c → 0 < c) → 0 < c
+      go Ordering·lt h on = let z : _≡_ {A = ℕ} 0 1 = cc in absurd (omega arith)
+      go Ordering·eq h on =
+          let e : recordAt children i .count ≡ c = cc in
+          rw e at (ltb-true 0 (recordAt children i .count) (all-at (countFits children) (recordCount children) i (ok .counts) (omega arith)))
+      go Ordering·gt h on = on h
+
+  pub prior-positive : (k : ℕ) (p : Counts) → priorOf nodes children k ≡ some p → Positive p
+  unfolding priorOf totalFits chainOf
+  prior-positive k p h = go (findRecord k (records nodes)) refl h
+    where
+      go : (o : Option Record) → findRecord k (records nodes) ≡ o → Option·map (priorOfNode children) o ≡ some p → Positive p
+      go none e h = let z : _≡_ {A = ℕ} 0 1 = cc in absurd (omega arith)
+      go (some r) e h =
+          let is : priorOfNode children r ≡ p = cc in
+          rw (← is)
+          (record {
+            total-positive = ltb-true 0 (total (priorOfNode children r)) (found-keeps nodes (λ n. ltb 0 (total (priorOfNode children n))) (ok .totals) k r e);
+            count-positive = chain-positive (recordCount children) (r .link) (found-fits k r e .link-fits);
+          })
 
 -- ---- totals fit a number of 64 bits: a chain has at most 64 counts of 32 bits
 
