@@ -16,7 +16,7 @@ use Rattle.book.specs.Limits.{maxCount}
 use Rattle.book.specs.Entries.{rows, Rewritten}
 use Rattle.book.specs.Path.{Steps, pathOf, wholePath, listedKeys, countedKeys}
 use Rattle.book.specs.Form.{capacity, bookFits, formed}
-use Rattle.book.specs.Changes.{CountsUpTo, changeAll, touchAll, bumpAll, addRows}
+use Rattle.book.specs.Changes.{CountsUpTo, EndingsListed, changeAll, touchAll, bumpAll, addRows}
 use Rattle.book.specs.Recount.{enterAll, listing, rowsOf, windowPart, sequenceLength}
 use Rattle.book.specs.Figures.{All}
 use Rattle.book.specs.Claims.{openRefusal, addRefusal, joined}
@@ -26,6 +26,7 @@ use Rattle.book.proofs.Image.{ascends-rows}
 use Rattle.book.proofs.Step.{rows-step}
 use Rattle.book.proofs.BookImage.{length-image, length-listing, formed-image}
 use Rattle.book.proofs.FormLaws.{formed-counts}
+use Rattle.book.proofs.EndingLaws.{formed-endings}
 use Rattle.book.proofs.RefusalLaws.{book-fits, path-fits}
 use Rattle.book.proofs.Kept.{Sizes, Kept, open-sizes, add-taken, kept-joined}
 use Rattle.baseline.specs.Limits.{maxPaths}
@@ -100,6 +101,9 @@ module _ (sequences : List ℕ) (first i : ℕ) (few : i ≤ maxPaths) (book : L
 
   pub held-formed : formed (rows book used) ≡ true
   held-formed = rw (h .rows-are) (formed-image 0 (pathsOf sequences first i) (h .whole) (h .ranks) (omega (arith, length-paths sequences first i)))
+
+  pub held-endings : EndingsListed (rows book used)
+  held-endings = formed-endings (rows book used) held-formed
 
   pub held-counts : CountsUpTo maxCount (rows book used)
   held-counts = formed-counts (rows book used) held-formed

@@ -7,11 +7,11 @@ use mathlib.Core.List.{List, [], _∷_, _++_}
 use mathlib.Core.Option.{Option, none, some}
 use mathlib.Core.Bool.{Bool, true, false, cond}
 use lib.ListN.{length, getD, set, take, drop, length-append, length-take, length-drop, length-set, take-append-drop}
-use lib.Seq.{set-getD}
 use Rattle.priors.specs.Rows.{Row, row, change, touch}
 use Rattle.priors.specs.Search.{blank, place, holds}
 use Rattle.priors.proofs.Orders.{Side, below, same, above, side}
-use Rattle.priors.proofs.ByPlace.{Spot, end, before, here, later, spot, spot-lt, change-spot}
+use Rattle.priors.proofs.RowLaws.{touch-found}
+use Rattle.priors.proofs.ByPlace.{Spot, end, before, here, later, spot, spot-lt, look-spot, change-spot}
 use Rattle.book.specs.declared.keys.Key.{Key}
 use Rattle.book.specs.declared.entries.Found.the-variants.{At, Missing}
 use Rattle.book.specs.Keys.{keyValue}
@@ -23,7 +23,7 @@ use Rattle.book.proofs.ChangeLaws.{rows-with, rest-with, rows-counted, 
 
 -- ---- what the search tells
 
-spot-at : (k i : ℕ) (rs : List Row) → findIn rs k ≡ At i → Spot k rs i true
+pub spot-at : (k i : ℕ) (rs : List Row) → findIn rs k ≡ At i → Spot k rs i true
 unfolding findIn
 spot-at k i rs f = go (holds rs (place rs k) k) f (spot k rs)
   where
@@ -31,7 +31,7 @@ spot-at k i rs f = go (holds rs (place rs k) k) f (spot k rs)
     go true f s = let q : place rs k ≡ i = cc in rw (← q) s
     go false f s = let z : _≡_ {A = ℕ} 0 1 = cc in absurd (omega arith)
 
-spot-missing : (k i : ℕ) (rs : List Row) → findIn rs k ≡ Missing i → Spot k rs i false
+pub spot-missing : (k i : ℕ) (rs : List Row) → findIn rs k ≡ Missing i → Spot k rs i false
 unfolding findIn
 spot-missing k i rs f = go (holds rs (place rs k) k) f (spot k rs)
   where
@@ -50,21 +50,30 @@ pub key-in-range : (k : Key) (c : ℕ) → k .node < 2 ^ 64 → k .kind < 2 ^ 32
 unfolding keyValue
 key-in-range k c hn hk hc h = record { key-fits = key-lt (k .node) (k .kind) (k .child) hn hk hc; count-fits = h }
 
--- ---- what the changes leave
+count-up-to : (m : ℕ) (rs : List Row) → CountsUpTo m rs → (i : ℕ) → i < length rs → getD rs i blank .count ≤ m
+count-up-to m [] h i l = absurd (not-suc-le-zero l)
+count-up-to m (r ∷ rs) h zero l = h .0
+count-up-to m (r ∷ rs) h (suc i) l = count-up-to m rs (h .1) i (le-of-suc-le-suc l)
+
+-- ---- what the changes leave, by where the key stands
 
 module _ (s : List ℕ) (n k i : ℕ) (fits : 24 * n ≤ length s) where
   len : length (rows s n) ≡ n
   len = length-rows s n
 
-  module _ (found : findIn (rows s n) k ≡ At i) where
+  module _ (found : Spot k (rows s n) i true) where
     pub at-lt : i < n
-    at-lt = let l : i < length (rows s n) = spot-lt (spot-at k i (rows s n) found) in omega (arith, len)
+    at-lt = let l : i < length (rows s n) = spot-lt found in omega (arith, len)
+
+    -- its count in the bytes
+    pub count-at : (m : ℕ) → CountsUpTo m (rows s n) → countAt s i ≤ m
+    count-at m h = rw (count-is s n i at-lt) at (count-up-to m (rows s n) h i (omega (arith, len, at-lt)))
 
     -- the row is there and its count is changed
     pub changed-at : (new : Option ℕ) (step : ℕ → ℕ) (v : ℕ) → v ≡ step (countAt s i) → v < 2 ^ 32 → Rewritten s (withCount s i v) n (change new step k (rows s n))
     changed-at new step v v-is h =
         let c : getD (rows s n) i blank .count ≡ countAt s i = count-is s n i at-lt in
-        let is : change new step k (rows s n) ≡ set (rows s n) i (row (getD (rows s n) i blank .key) v) = change-spot new step k (spot-at k i (rows s n) found) ∙ rw (c, ← v-is) in
+        let is : change new step k (rows s n) ≡ set (rows s n) i (row (getD (rows s n) i blank .key) v) = change-spot new step k found ∙ rw (c, ← v-is) in
         record {
           number-is = sym (ap length is ∙ simp length-set len);
           rows-are = rows-counted s i v (omega (arith, at-lt)) h n at-lt ∙ sym is;
@@ -74,16 +83,16 @@ module _ (s : List ℕ) (n k i : ℕ) (fits : 24 * n ≤ length s) where
     -- the row is there and stays
     pub touched-at : Rewritten s s n (touch k (rows s n))
     touched-at =
-        let is : touch k (rows s n) ≡ rows s n = change-spot (some 0) (λ c. c) k (spot-at k i (rows s n) found) ∙ set-getD (rows s n) i blank in
+        let is : touch k (rows s n) ≡ rows s n = touch-found k (getD (rows s n) i blank .count) (rows s n) (look-spot k found) in
         record { number-is = sym (ap length is ∙ len); rows-are = sym is; rest-is = refl }
 
-  module _ (missing : findIn (rows s n) k ≡ Missing i) where
+  module _ (missing : Spot k (rows s n) i false) where
     pub missing-le : i ≤ n
-    missing-le = let l : i ≤ length (rows s n) = spot-le (spot-missing k i (rows s n) missing) in omega (arith, len)
+    missing-le = let l : i ≤ length (rows s n) = spot-le missing in omega (arith, len)
 
     module _ (c : ℕ) (step : ℕ → ℕ) where
       comes-in : change (some c) step k (rows s n) ≡ take i (rows s n) ++ row k c ∷ drop i (rows s n)
-      comes-in = change-spot (some c) step k (spot-missing k i (rows s n) missing)
+      comes-in = change-spot (some c) step k missing
 
       pub length-in : length (change (some c) step k (rows s n)) ≡ n + 1
       length-in = ap length comes-in ∙ simp (length-append, length-take, length-drop) (omega (arith, len, missing-le))
@@ -99,15 +108,10 @@ module _ (s : List ℕ) (n k i : ℕ) (fits : 24 * n ≤ length s) where
     -- a missing row is passed over
     pub passed-over : (step : ℕ → ℕ) → Rewritten s s n (change none step k (rows s n))
     passed-over step =
-        let is : change none step k (rows s n) ≡ rows s n = change-spot none step k (spot-missing k i (rows s n) missing) ∙ take-append-drop i (rows s n) in
+        let is : change none step k (rows s n) ≡ rows s n = change-spot none step k missing ∙ take-append-drop i (rows s n) in
         record { number-is = sym (ap length is ∙ len); rows-are = sym is; rest-is = refl }
 
 -- ---- counts
-
-pub count-up-to : (m : ℕ) (rs : List Row) → CountsUpTo m rs → (i : ℕ) → i < length rs → getD rs i blank .count ≤ m
-count-up-to m [] h i l = absurd (not-suc-le-zero l)
-count-up-to m (r ∷ rs) h zero l = h .0
-count-up-to m (r ∷ rs) h (suc i) l = count-up-to m rs (h .1) i (le-of-suc-le-suc l)
 
 pub counts-rise : (m m′ : ℕ) (rs : List Row) → m ≤ m′ → CountsUpTo m rs → CountsUpTo m′ rs
 counts-rise m m′ [] l h = tt

@@ -19,12 +19,13 @@ use Rattle.book.specs.Limits.{maxWindow, maxAccepted}
 use Rattle.book.specs.Entries.{rows, bytesOf, Rewritten}
 use Rattle.book.specs.Path.{listedKeys, countedKeys, pathOf, wholePath}
 use Rattle.book.specs.Form.{capacity, bookFits, queueFits, stateFits, formed, lengthsFit, filled, inForm}
-use Rattle.book.specs.Changes.{changeAll, touchAll, bumpAll, fadeAll, leftKeys, addRows}
+use Rattle.book.specs.Changes.{changeAll, touchAll, bumpAll, fadeAll, leftKeys, addRows, EndingsListed}
 use Rattle.book.specs.Calls.{zeros, fresh, openNumber, openState, openBook, openQueue, addNumber, addState, addBook, addQueue, stateAfter, bookAfter, queueWith, listedRows, leaving, nextPlace, stepsAt, placeBytes, rowsAfter, Leaves, Ready}
 use Rattle.book.proofs.EntryLaws.{length-rows, length-bytesOf, rows-forth}
 use Rattle.book.proofs.ManyRows.{ascends-all}
 use Rattle.book.proofs.Lengths.{length-half}
 use Rattle.book.proofs.FormLaws.{and-left, and-right, formed-ascends, formed-counts, lengths-at}
+use Rattle.book.proofs.EndingLaws.{formed-endings}
 use Rattle.book.proofs.StepLaws.{part-steps, path-even, path-high}
 
 -- ---- an opening
@@ -151,12 +152,16 @@ module _ (t : Tracker) (book queue : List ℕ) (form : inForm t book queue ≡ t
   pub form-ascends : Ascends 0 (keys (rows book (t .used)))
   form-ascends = formed-ascends (rows book (t .used)) form-formed
 
+  pub form-endings : EndingsListed (rows book (t .used))
+  form-endings = formed-endings (rows book (t .used)) form-formed
+
   -- no test turns the path back
   pub ready : (path : List ℕ) → wholePath path ≡ true → t .accepted < maxAccepted → leb (length (listedRows t book path)) (capacity book) ≡ true → Ready t book queue path
   ready path whole more room = record {
     book-fits = form-book;
     used-fit = form-used;
     ascends = form-ascends;
+    endings-listed = form-endings;
     counts-fit = formed-counts (rows book (t .used)) form-formed;
     queue-fits = form-leaves;
     path-whole = whole;

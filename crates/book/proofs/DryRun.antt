@@ -25,10 +25,11 @@ gained-first (suc n) none = gained-first n (some 0)
 gained-first (suc n) (some c) = gained-first n (some c)
 
 -- the same for one key, after others were touched
+pub gained-next : (k : ℕ) (seen : List ℕ) (rs : List Row) → gained (look k (touchAll seen rs)) (some 0) ≡ first (look k rs) (occurrences k seen)
+gained-next k seen rs = ap (λ (o : Option ℕ). gained o (some 0)) (look-all (some 0) (λ c. c) k seen rs) ∙ gained-first (occurrences k seen) (look k rs)
+
 pub length-next : (k : ℕ) (seen : List ℕ) (rs : List Row) → length (touch k (touchAll seen rs)) ≡ length (touchAll seen rs) + first (look k rs) (occurrences k seen)
-length-next k seen rs =
-    length-change (some 0) (λ c. c) k (touchAll seen rs)
-    ∙ ap (λ (n : ℕ). length (touchAll seen rs) + n) (ap (λ (o : Option ℕ). gained o (some 0)) (look-all (some 0) (λ c. c) k seen rs) ∙ gained-first (occurrences k seen) (look k rs))
+length-next k seen rs = length-change (some 0) (λ c. c) k (touchAll seen rs) ∙ ap (λ (n : ℕ). length (touchAll seen rs) + n) (gained-next k seen rs)
 
 length-after : (ks seen : List ℕ) (rs : List Row) → length (touchAll ks (touchAll seen rs)) ≡ length (touchAll seen rs) + missing rs seen ks
 unfolding missing changeAll

@@ -1,5 +1,5 @@
 -- The form by its tests: of an entry from its fields, of entries one after the other, of the queue's lengths; and what the form tells an add. Assumes nothing.
-use mathlib.Core.Path.{_≡_, refl, sym, ap, _∙_}
+use mathlib.Core.Path.{_≡_, refl, sym, ap, ap₂, _∙_}
 use mathlib.Core.Bool.{Bool, true, false, _&&_, _||_}
 use Prim.Native.Nat.{ℕ, zero, suc, _+_, _-_, _*_, _≤_, _<_, zero-le}
 use mathlib.Core.Logic.{⊎-elim}
@@ -10,18 +10,19 @@ use mathlib.Core.List.{List, [], _∷_}
 use lib.Dec.{ltb, leb, eqb}
 use lib.ListN.{length, getD, take, drop, drop-of-length-le}
 use lib.Seq.{drop-cons, ext-getD}
-use borrow.Author.Tests.{le-leb, lt-leb, eq-eqb, ne-eqb, leb-true, ltb-true}
+use borrow.Author.Tests.{le-leb, lt-leb, eq-eqb, ne-eqb, leb-true, ltb-true, eqb-true}
 use Rattle.priors.specs.Word.{word}
 use Rattle.priors.specs.Address.{rankAt}
 use Rattle.priors.specs.Rows.{Row, keys, Ascends}
 use Rattle.priors.specs.Search.{blank}
 use Rattle.priors.proofs.Ranks.{Bytes}
 use Rattle.book.specs.Limits.{maxCount, maxSteps, placeSize}
-use Rattle.book.specs.Keys.{nodeOf, kindOf, childOf, noChild}
+use Rattle.book.specs.Keys.{keyOf, endKey, nodeOf, kindOf, childOf, noChild}
 use Rattle.book.specs.Entries.{keyAt, rowAt, rows}
 use Rattle.book.specs.declared.trackers.Tracker.{Tracker}
 use Rattle.book.specs.Form.{bookFits, queueFits, stateFits, plain, follows, formedAfter, formed, lengthsFit, filled, inForm}
 use Rattle.book.specs.Changes.{CountsUpTo}
+use Rattle.book.proofs.KeyLaws.{key-parts}
 use Rattle.book.proofs.EntryLaws.{length-rows, getD-rows, row-take, node-at, kind-at, child-at}
 
 pub and-left : (a b : Bool) → a && b ≡ true → a ≡ true
@@ -153,7 +154,7 @@ lengths-at queue (suc n) i h l = ⊎-elim (λ e. rw e here) (λ q. lengths-at qu
           leb-true (word queue (placeSize * n)) maxSteps (and-right (leb 1 (word queue (placeSize * n))) (leb (word queue (placeSize * n)) maxSteps) t),
         )
 
-ascends-after : (k : ℕ) (rs : List Row) → formedAfter k rs ≡ true → Ascends (suc k) (keys rs)
+pub ascends-after : (k : ℕ) (rs : List Row) → formedAfter k rs ≡ true → Ascends (suc k) (keys rs)
 unfolding formedAfter follows
 ascends-after k [] h = tt
 ascends-after k (r ∷ rs) h =
@@ -189,6 +190,14 @@ formed-counts [] h = tt
 formed-counts (r ∷ rs) h =
     let e : Bool = eqb (kindOf (r .key)) 0 in
     (plain-count r (and-left (plain r) (e && formedAfter (r .key) rs) h), counts-after (r .key) rs (and-right e (formedAfter (r .key) rs) (and-right (plain r) (e && formedAfter (r .key) rs) h)))
+
+-- an ending has the key of its node's ending
+pub ending-key : (r : Row) → plain r ≡ true → kindOf (r .key) ≡ 0 → r .key ≡ endKey (nodeOf (r .key))
+unfolding plain endKey
+ending-key r h z =
+    let t : Bool = eqb (kindOf (r .key)) 1 || eqb (childOf (r .key)) noChild in
+    let c : t ≡ true = and-right (leb (r .count) maxCount) t (and-right (leb (kindOf (r .key)) 1) (leb (r .count) maxCount && t) h) in
+    sym (key-parts (r .key)) ∙ ap₂ (keyOf (nodeOf (r .key))) z (eqb-true (childOf (r .key)) noChild (rw z at c))
 
 -- ---- what the form reads: sizes, the used entries and the lengths of filled places
 

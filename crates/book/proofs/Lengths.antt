@@ -14,7 +14,7 @@ use Rattle.book.specs.Path.{Steps, listedKeys, countedKeys}
 use Rattle.book.specs.Changes.{changeAll, touchAll, bumpAll, fadeAll, leftKeys, addRows}
 use Rattle.book.specs.Recount.{occurrences}
 use Rattle.book.specs.Figures.{Listed}
-use Rattle.priors.proofs.RowLaws.{gained, look-change, length-change, length-fade}
+use Rattle.priors.proofs.RowLaws.{gained, look-change, length-change, length-fade, grows}
 use Rattle.book.proofs.Passes.{onePass}
 use Rattle.book.proofs.ManyRows.{times, look-all}
 use Rattle.book.proofs.Occurrences.{counted-listed}
@@ -25,7 +25,7 @@ use Rattle.book.proofs.OnePass.{one-pass}
 -- ---- a key that has a row
 
 -- whatever is changed, it keeps one
-listed-change : (new : Option ℕ) (step : ℕ → ℕ) (k j : ℕ) (rs : List Row) → Listed j rs → Listed j (change new step k rs)
+pub listed-change : (new : Option ℕ) (step : ℕ → ℕ) (k j : ℕ) (rs : List Row) → Listed j rs → Listed j (change new step k rs)
 listed-change new step k j rs l = go (eqb j k) (look-change new step k j rs ∙ ap (λ (o : Option ℕ). cond (eqb j k) (after new step o) o) (l .1))
   where
     go : (b : Bool) → look j (change new step k rs) ≡ cond b (after new step (some (l .0))) (some (l .0)) → Listed j (change new step k rs)
@@ -71,9 +71,6 @@ pub length-pass : (p : Steps) (rs : List Row) → Ascends 0 (keys rs) → length
 length-pass p rs h = ap length (one-pass p rs h) ∙ length-half p rs
 
 -- what is still to come only adds rows
-grows : (new : Option ℕ) (step : ℕ → ℕ) (k : ℕ) (rs : List Row) → length rs ≤ length (change new step k rs)
-grows new step k rs = omega (arith, length-change new step k rs)
-
 pub pass-grows : (p : Steps) (rs : List Row) → length rs ≤ length (onePass p rs)
 unfolding onePass
 pass-grows [] rs = omega arith

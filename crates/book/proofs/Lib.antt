@@ -31,6 +31,7 @@ pub mod QueueImage
 pub mod BookImage
 -- what the functions of src are shown by:
 pub mod FormLaws
+pub mod EndingLaws
 pub mod StepLaws
 pub mod PassLaws
 pub mod PlaceLaws

@@ -43,7 +43,7 @@ pub kind-child : (a b : ℕ) → b < 2 ^ 64 → kindOf (childKey a b) ≡ 1
 unfolding childKey
 kind-child a b h = key-kind a 1 b (omega arith) h
 
-end-below-child : (a b : ℕ) → endKey a ≤ childKey a b
+pub end-below-child : (a b : ℕ) → endKey a < childKey a b
 unfolding endKey childKey keyOf rank lift
 end-below-child a b = omega arith
 

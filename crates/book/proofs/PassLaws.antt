@@ -5,27 +5,27 @@ use Prim.Native.Nat.{ℕ, suc, _+_, _-_, _*_, _^_, _≤_, _<_, zero-le}
 use native.Mathlib.Numerals.{add-one}
 use native.Mathlib.Omega.{arith}
 use mathlib.Core.List.{List}
-use mathlib.Core.Option.{Option, none, some}
+use mathlib.Core.Bool.{false}
+use mathlib.Core.Option.{none, some}
 use lib.ListN.{length, getD, drop}
 use lib.Seq.{drop-drop}
-use Rattle.priors.specs.Rows.{Row, keys, Ascends, change, touch, bump, fade}
-use Rattle.priors.proofs.RowLaws.{ascends-change, length-change}
+use Rattle.priors.specs.Rows.{Row, keys, Ascends, look, touch, bump, fade}
+use Rattle.priors.proofs.RowLaws.{gained, ascends-change, length-touch, grows}
+use Rattle.priors.proofs.ByPlace.{Spot, spot-moved}
 use Rattle.book.specs.Limits.{maxCount}
 use Rattle.book.specs.Keys.{endKey, childKey}
 use Rattle.book.specs.Path.{Steps, pathOf, listedKeys, countedKeys}
 use Rattle.book.specs.Entries.{rows, Rewritten}
-use Rattle.book.specs.Changes.{CountsUpTo, touchAll, bumpAll, fadeAll}
+use Rattle.book.specs.Changes.{CountsUpTo, EndingsListed, touchAll, bumpAll, fadeAll}
 use Rattle.book.proofs.Passes.{onePass}
 use Rattle.book.proofs.OnePass.{one-pass}
 use Rattle.book.proofs.Loops.{pass-on, pass-last, fade-on, fade-last}
 use Rattle.book.proofs.Lengths.{length-pass, pass-grows}
+use Rattle.book.proofs.EndingLaws.{pair-keeps}
 use Rattle.book.proofs.EntryLaws.{length-rows}
 use Rattle.book.proofs.BookLaws.{counts-change}
 
 -- ---- one change after another
-
-pub grows : (new : Option ℕ) (step : ℕ → ℕ) (k : ℕ) (rs : List Row) → length rs ≤ length (change new step k rs)
-grows new step k rs = omega (arith, length-change new step k rs)
 
 -- bytes that are alike from one place on are alike from a later one on
 pub later : (s s′ : List ℕ) (n m : ℕ) → n ≤ m → drop (24 * n) s ≡ drop (24 * n) s′ → drop (24 * m) s ≡ drop (24 * m) s′
@@ -37,20 +37,23 @@ later s s′ n m l e =
     ∙ drop-drop (24 * m - 24 * n) (24 * n) s′
     ∙ ap (λ (k : ℕ). drop k s′) at
 
--- a key is touched, and another counts one more in what that leaves
-module _ (s : List ℕ) (n e k : ℕ) (ascends : Ascends 0 (keys (rows s n))) (counts-fit : CountsUpTo (2 ^ 31) (rows s n)) (room : 24 * length (bump k (touch e (rows s n))) ≤ length s)
-    (s′ : List ℕ) (n′ : ℕ) (len : length s′ ≡ length s) (r : Rewritten s s′ n′ (touch e (rows s n))) where
-  pub second-fits : 24 * n′ ≤ length s′
-  second-fits = omega (arith, r .number-is, grows (some 1) (λ c. c + 1) k (touch e (rows s n)))
+-- a key is touched, and another above it, which is missing, comes in after that
+module _ (s : List ℕ) (n e k : ℕ) (s′ : List ℕ) (n′ : ℕ) (r : Rewritten s s′ n′ (touch e (rows s n))) where
+  pub second-after : n ≤ n′
+  second-after = omega (arith, r .number-is, grows (some 0) (λ c. c) e (rows s n), length-rows s n)
 
-  pub second-ascends : Ascends 0 (keys (rows s′ n′))
-  second-ascends = rw (r .rows-are) (ascends-change (some 0) (λ c. c) e 0 (rows s n) zero-le ascends)
+  -- its place moves up where the first comes in
+  pub second-place : (i : ℕ) → e < k → Spot k (rows s n) i false → Spot k (rows s′ n′) (i + (n′ - n)) false
+  second-place i l p =
+      let up : gained (look e (rows s n)) (some 0) + i ≡ i + (n′ - n) = omega (arith, r .number-is, length-touch e (rows s n), length-rows s n) in
+      rw (r .rows-are, ← up) (spot-moved 0 (λ c. c) e k l p)
 
-  pub second-counts : CountsUpTo (2 ^ 32 - 2) (rows s′ n′)
-  second-counts = rw (r .rows-are) (counts-change (2 ^ 31) (2 ^ 32 - 2) 0 (λ c. c) e (rows s n) (omega arith) (omega arith) (λ d l. omega arith) counts-fit)
+  module _ (room : 24 * length (bump k (touch e (rows s n))) ≤ length s) (len : length s′ ≡ length s) where
+    pub second-fits : 24 * n′ ≤ length s′
+    second-fits = omega (arith, r .number-is, grows (some 1) (λ c. c + 1) k (touch e (rows s n)))
 
-  pub second-room : 24 * length (bump k (rows s′ n′)) ≤ length s′
-  second-room = rw (r .rows-are, len) room
+    pub second-room : 24 * length (bump k (rows s′ n′)) ≤ length s′
+    second-room = rw (r .rows-are, len) room
 
   pub both-done : (s″ : List ℕ) (m : ℕ) → Rewritten s′ s″ m (bump k (rows s′ n′)) → Rewritten s s″ m (bump k (touch e (rows s n)))
   both-done s″ m q =
@@ -70,12 +73,13 @@ pub record Passing (s₀ : List ℕ) (n₀ : ℕ) (p : Steps) (s : List ℕ) (n 
   pub fits : 24 * n ≤ length s
   pub rest-is : drop (24 * n) s ≡ drop (24 * n) s₀
   pub ascends : Ascends 0 (keys (rows s n))
+  pub endings-listed : EndingsListed (rows s n)
   pub counts-fit : CountsUpTo (maxCount + i) (rows s n)
   pub left : onePass (drop i p) (rows s n) ≡ onePass p (rows s₀ n₀)
 
 module _ (s₀ : List ℕ) (n₀ : ℕ) (p : Steps) (room : 24 * length (onePass p (rows s₀ n₀)) ≤ length s₀) where
-  pub passing-start : 24 * n₀ ≤ length s₀ → Ascends 0 (keys (rows s₀ n₀)) → CountsUpTo maxCount (rows s₀ n₀) → Passing s₀ n₀ p s₀ n₀ 0
-  passing-start f a c = record { same-length = refl; fits = f; rest-is = refl; ascends = a; counts-fit = c; left = refl }
+  pub passing-start : 24 * n₀ ≤ length s₀ → Ascends 0 (keys (rows s₀ n₀)) → EndingsListed (rows s₀ n₀) → CountsUpTo maxCount (rows s₀ n₀) → Passing s₀ n₀ p s₀ n₀ 0
+  passing-start f a e c = record { same-length = refl; fits = f; rest-is = refl; ascends = a; endings-listed = e; counts-fit = c; left = refl }
 
   module _ (s : List ℕ) (n i : ℕ) (so-far : Passing s₀ n₀ p s n i) where
     module _ (more : i + 1 < length p) (a b : ℕ) (a-is : a ≡ getD p i 0) (b-is : b ≡ getD p (i + 1) 0) where
@@ -92,9 +96,9 @@ module _ (s₀ : List ℕ) (n₀ : ℕ) (p : Steps) (room : 24 * length (onePass
       unfolding next
       pair-room = omega (arith, pass-grows (drop (i + 1) p) next, ap length on, so-far .same-length)
 
-      pub passing-on : (s′ : List ℕ) (n′ : ℕ) → length s′ ≡ length s → Rewritten s s′ n′ (bump (childKey a b) (touch (endKey a) (rows s n))) → Passing s₀ n₀ p s′ n′ (i + 1)
+      pub passing-on : (s′ : List ℕ) (n′ : ℕ) → b < 2 ^ 64 → length s′ ≡ length s → Rewritten s s′ n′ (bump (childKey a b) (touch (endKey a) (rows s n))) → Passing s₀ n₀ p s′ n′ (i + 1)
       unfolding next
-      passing-on s′ n′ len r =
+      passing-on s′ n′ small len r =
           let t : List Row = touch (endKey a) (rows s n) in
           let below : n ≤ n′ = omega (arith, grows (some 0) (λ c. c) (endKey a) (rows s n), grows (some 1) (λ c. c + 1) (childKey a b) t, r .number-is, length-rows s n) in
           let asc : Ascends 0 (keys next) = ascends-change (some 1) (λ c. c + 1) (childKey a b) 0 t zero-le (ascends-change (some 0) (λ c. c) (endKey a) 0 (rows s n) zero-le (so-far .ascends)) in
@@ -107,6 +111,7 @@ module _ (s₀ : List ℕ) (n₀ : ℕ) (p : Steps) (room : 24 * length (onePass
             fits = omega (arith, pair-room, r .number-is);
             rest-is = r .rest-is ∙ later s s₀ n n′ below (so-far .rest-is);
             ascends = rw (r .rows-are) asc;
+            endings-listed = rw (r .rows-are) (pair-keeps (some 1) (λ c. c + 1) a b (rows s n) small (so-far .endings-listed));
             counts-fit = rw (r .rows-are) counted;
             left = rw (r .rows-are) on;
           }

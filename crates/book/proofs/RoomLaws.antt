@@ -1,6 +1,6 @@
 -- The dry run for 12: the keys that a path lists are looked at in turn, and each that has no row and stands for the first time brings one. Assumes nothing.
 use mathlib.Core.Path.{_≡_, refl, sym, ap, ap₂, _∙_}
-use Prim.Native.Nat.{ℕ, zero, suc, _+_, _-_, _*_, _/_, _%_, _≤_, _<_}
+use Prim.Native.Nat.{ℕ, zero, suc, _+_, _-_, _*_, _/_, _%_, _^_, _≤_, _<_}
 use native.Mathlib.Numerals.{add-one}
 use native.Mathlib.Omega.{arith}
 use mathlib.Core.List.{List, [], _∷_}
@@ -13,21 +13,25 @@ use borrow.Author.Tests.{eq-eqb, ne-eqb}
 use Rattle.priors.specs.Address.{rankAt}
 use Rattle.priors.specs.Rows.{Row, look, touch}
 use Rattle.priors.specs.Search.{blank, place, holds}
-use Rattle.priors.proofs.RowLaws.{length-touch, gained}
+use Rattle.priors.proofs.Ranks.{Bytes, rankAt-lt}
+use Rattle.priors.proofs.RowLaws.{look-other, length-touch, gained}
 use Rattle.priors.proofs.ByPlace.{look-place}
 use Rattle.book.specs.declared.entries.Found.the-variants.{At, Missing}
 use Rattle.book.specs.Keys.{endKey, childKey}
 use Rattle.book.specs.Path.{Steps, pathOf, listedKeys}
 use Rattle.book.specs.Entries.{rows, findIn}
-use Rattle.book.specs.Changes.{changeAll, touchAll}
+use Rattle.book.specs.Figures.{Listed}
+use Rattle.book.specs.Changes.{changeAll, touchAll, EndingsListed}
 use Rattle.book.specs.Recount.{occurrences}
 use Rattle.book.specs.Room.{brings}
 use Rattle.book.proofs.Passes.{first}
 use Rattle.book.proofs.Occurrences.{hit, occ-nil, occ-cons, occ-append}
-use Rattle.book.proofs.DryRun.{changeAll-snoc, length-next}
+use Rattle.book.proofs.ListingForm.{end-below-child}
+use Rattle.book.proofs.DryRun.{changeAll-snoc, gained-next, length-next}
+use Rattle.book.proofs.EndingLaws.{ending-listed, pairs-keep}
 use Rattle.book.proofs.EntryLaws.{length-rows}
-use Rattle.book.proofs.PathLaws.{length-steps}
-use Rattle.book.proofs.StepLaws.{step-at, length-listed, listed-ending, listed-child}
+use Rattle.book.proofs.PathLaws.{length-steps, steps-ranks}
+use Rattle.book.proofs.StepLaws.{getD-steps, step-at, length-listed, listed-ending, listed-child}
 
 -- ---- the listed keys, from the bytes
 
@@ -149,12 +153,74 @@ one-looked-at rs ks all j so-far in-list b is =
     ∙ length-next k (take j ks) rs
     ∙ ap₂ _+_ (sym so-far) (first-is rs k (occurrences k (take j ks)) ∙ sym is))
 
+pub pair-looked-at : (rs : List Row) (ks : List ℕ) (all i : ℕ) → all ≡ length (touchAll (take (2 * i) ks) rs) → 2 * i + 1 < length ks → (b : ℕ) → b ≡ brings rs ks (2 * i) + brings rs ks (2 * i + 1)
+    → all + b ≡ length (touchAll (take (2 * (i + 1)) ks) rs)
+pair-looked-at rs ks all i so-far in-list b is =
+    let j : ℕ = 2 * i in
+    let c : ℕ = brings rs ks j in
+    let both : all + c + brings rs ks (j + 1) ≡ length (touchAll (take (j + 1 + 1) ks) rs) = one-looked-at rs ks (all + c) (j + 1) (one-looked-at rs ks all j so-far (omega arith) c refl) in-list (brings rs ks (j + 1)) refl in
+    let at : j + 1 + 1 ≡ 2 * (i + 1) = omega arith in
+    let sum : all + b ≡ all + c + brings rs ks (j + 1) = omega arith in
+    sum ∙ both ∙ ap (λ (n : ℕ). length (touchAll (take n ks) rs)) at
+
 pub none-looked-at : (s : List ℕ) (n : ℕ) (ks : List ℕ) → n ≡ length (touchAll (take 0 ks) (rows s n))
 unfolding changeAll
 none-looked-at s n ks = sym (length-rows s n)
 
 pub all-looked-at : (rs : List Row) (ks : List ℕ) (all j : ℕ) → all ≡ length (touchAll (take j ks) rs) → length ks ≤ j → all ≡ length (touchAll ks rs)
 all-looked-at rs ks all j e h = e ∙ ap (λ (l : List ℕ). length (touchAll l rs)) (take-all j ks h)
+
+-- ---- a step and its child
+
+brings-is : (rs : List Row) (ks : List ℕ) (j : ℕ) → brings rs ks j ≡ gained (look (getD ks j 0) (touchAll (take j ks) rs)) (some 0)
+brings-is rs ks j = let k : ℕ = getD ks j 0 in sym (gained-next k (take j ks) rs ∙ first-is rs k (occurrences k (take j ks)))
+
+gains-none : (k : ℕ) (rs : List Row) → gained (look k rs) (some 0) ≡ 0 → Listed k rs
+gains-none k rs z = go (look k rs) refl z
+  where
+    go : (o : Option ℕ) → look k rs ≡ o → gained o (some 0) ≡ 0 → Listed k rs
+    go none e z = absurd (omega arith)
+    go (some c) e z = (c, e)
+
+module _ (path : List ℕ) (bytes : Bytes path) (rs : List Row) (endings : EndingsListed rs) (i : ℕ) (more : i + 1 < length path / 8) where
+  steps : Steps
+  steps = pathOf path
+
+  node : ℕ
+  node = getD steps i 0
+
+  child : ℕ
+  child = getD steps (i + 1) 0
+
+  -- the rows with the keys before them touched
+  before : List Row
+  before = touchAll (take (2 * i) (listedKeys steps)) rs
+
+  number : length steps ≡ length path / 8
+  unfolding steps
+  number = length-steps path (length path / 8)
+
+  child-brings : brings rs (listedKeys steps) (2 * i + 1) ≡ gained (look (childKey node child) before) (some 0)
+  unfolding node child before
+  child-brings =
+      let ks : List ℕ = listedKeys steps in
+      let touched : touchAll (take (2 * i + 1) ks) rs ≡ touch (endKey node) before =
+      ap (λ (n : ℕ). touchAll (take n ks) rs) (add-one (2 * i))
+      ∙ ap (λ (l : List ℕ). touchAll l rs) (take-suc ks (2 * i) 0 (omega (arith, number, length-listed steps (omega (arith, number)))))
+      ∙ changeAll-snoc (some 0) (λ c. c) (take (2 * i) ks) (getD ks (2 * i) 0) rs
+      ∙ ap (λ (k : ℕ). touch k before) (listed-ending steps i (omega (arith, number))) in
+      brings-is rs ks (2 * i + 1)
+      ∙ rw (listed-child steps i (omega (arith, number)), touched, look-other (some 0) (λ c. c) (endKey node) (childKey node child) (λ q. omega (arith, end-below-child node child)) before)
+
+  -- where the child brings none, its node is listed
+  pub pair-none : brings rs (listedKeys (pathOf path)) (2 * i + 1) ≡ 0 → brings rs (listedKeys (pathOf path)) (2 * i) ≡ 0
+  unfolding steps node child before
+  pair-none z =
+      let ks : List ℕ = listedKeys steps in
+      let keeps : EndingsListed before = pairs-keep steps i rs (omega (arith, number)) (steps-ranks path bytes (length path / 8)) endings in
+      let small : child < 2 ^ 64 = rw (getD-steps path (length path / 8) (i + 1) more) (rankAt-lt path bytes (8 * (i + 1))) in
+      let there : Listed (endKey node) before = ending-listed node child before small keeps (gains-none (childKey node child) before (sym child-brings ∙ z)) in
+      brings-is rs ks (2 * i) ∙ rw (listed-ending steps i (omega (arith, number)), there .1)
 
 -- ---- no more rows than keys
 

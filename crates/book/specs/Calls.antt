@@ -18,7 +18,7 @@ use Rattle.book.specs.Limits.{maxWindow, maxAccepted, maxCount, maxSteps
 use Rattle.book.specs.Entries.{rows, bytesOf}
 use Rattle.book.specs.Path.{Steps, stepsOf, pathOf, wholePath, listedKeys}
 use Rattle.book.specs.Form.{capacity, bookFits, queueFits, lengthsFit, filled, inForm}
-use Rattle.book.specs.Changes.{touchAll, addRows, CountsUpTo}
+use Rattle.book.specs.Changes.{touchAll, addRows, CountsUpTo, EndingsListed}
 
 abbrev pub zeros : ℕ → List ℕ
 zeros n = replicate n 0
@@ -130,6 +130,7 @@ pub record Ready (t : Tracker) (book queue path : List ℕ) : Type 0 where
   pub book-fits : bookFits book ≡ true
   pub used-fit : entrySize * t .used ≤ length book
   pub ascends : Ascends 0 (keys (rows book (t .used)))
+  pub endings-listed : EndingsListed (rows book (t .used))
   pub counts-fit : CountsUpTo maxCount (rows book (t .used))
   pub queue-fits : Leaves t queue
   pub path-whole : wholePath path ≡ true

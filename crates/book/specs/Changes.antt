@@ -3,7 +3,9 @@ use Prim.Native.Nat.{ℕ, _+_, _-_, _≤_}
 use mathlib.Core.List.{List, [], _∷_}
 use mathlib.Core.Option.{Option, none, some}
 use Rattle.priors.specs.Rows.{Row, change}
+use Rattle.book.specs.Keys.{endKey, nodeOf}
 use Rattle.book.specs.Path.{Steps, listedKeys, countedKeys}
+use Rattle.book.specs.Figures.{Listed}
 
 -- one change for each key in turn
 unfoldable pub changeAll : Option ℕ → (ℕ → ℕ) → List ℕ → List Row → List Row
@@ -35,3 +37,7 @@ addRows p l rs = fadeAll (leftKeys l) (bumpAll (countedKeys p) (touchAll (listed
 abbrev pub CountsUpTo : ℕ → List Row → Type 0
 CountsUpTo m [] = Unit {0}
 CountsUpTo m (r ∷ rs) = (r .count ≤ m) × CountsUpTo m rs
+
+-- whatever key has a row, its node's ending has one
+abbrev pub EndingsListed : List Row → Type 0
+EndingsListed rs = (k : ℕ) → Listed k rs → Listed (endKey (nodeOf k)) rs

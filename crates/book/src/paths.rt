@@ -8,10 +8,14 @@ ghost use Rattle.book.specs.Limits.{maxCount};
 ghost use Rattle.book.specs.Keys.{endKey, childKey};
 ghost use Rattle.book.specs.Entries.{rows, Rewritten};
 ghost use Rattle.book.specs.Path.{pathOf, wholePath, listedKeys, countedKeys};
-ghost use Rattle.book.specs.Changes.{CountsUpTo, touchAll, bumpAll, fadeAll};
+ghost use Rattle.book.specs.Changes.{CountsUpTo, EndingsListed, touchAll, bumpAll, fadeAll};
 use crate::changes::fade_key;
 use crate::changes::note;
 use crate::changes::touch;
+use crate::entries;
+use crate::entries::Found;
+use crate::entries::find;
+use crate::entries::insert;
 use crate::keys::child;
 use crate::keys::ending;
 use priors::addresses::rank_at;
@@ -30,16 +34,28 @@ pub fn whole_path(path: &[u8]) -> bool
     n / 8 <= 64
 }
 
-// A node is listed and the step from it to the next counts one more. The result is the number of entries.
+// A node is listed and the step from it to the next counts one more. A step that has an entry has its node listed already; before one
+// that has none the node's ending may come in, and then its place is one further up. The result is the number of entries.
 fn add_pair(book: &mut [u8], used: usize, node: u64, next: u64) -> usize
     requires { ⌜ 24 * used ≤ length (now book) ⌝ }
     requires { ⌜ Ascends 0 (keys (rows (now book) used)) ⌝ }
+    requires { ⌜ EndingsListed (rows (now book) used) ⌝ }
     requires { ⌜ CountsUpTo (2 ^ 31) (rows (now book) used) ⌝ }
     requires { ⌜ 24 * length (bump (childKey node next) (touch (endKey node) (rows (now book) used))) ≤ length (now book) ⌝ }
     ensures { λ r. ⌜ Rewritten (now (book .entry)) (now (book .exit)) r (bump (childKey node next) (touch (endKey node) (rows (now (book .entry)) used))) ⌝ }
 {
-    let listed = touch(book, used, ending(node));
-    note(book, listed, child(node, next))
+    let key = child(node, next);
+    match find(book, used, key) {
+        Found::At(i) => {
+            entries::bump(book, i);
+            used
+        }
+        Found::Missing(i) => {
+            let listed = touch(book, used, ending(node));
+            insert(book, listed, i + (listed - used), key, 1);
+            listed + 1
+        }
+    }
 }
 
 // Lists and counts what a path lists and counts, in one pass over it. The result is the number of entries.
@@ -47,6 +63,7 @@ pub fn add_steps(book: &mut [u8], used: usize, path: &[u8]) -> usize
     requires { ⌜ wholePath (now path) ≡ true ⌝ }
     requires { ⌜ 24 * used ≤ length (now book) ⌝ }
     requires { ⌜ Ascends 0 (keys (rows (now book) used)) ⌝ }
+    requires { ⌜ EndingsListed (rows (now book) used) ⌝ }
     requires { ⌜ CountsUpTo maxCount (rows (now book) used) ⌝ }
     requires { ⌜ 24 * length (touchAll (listedKeys (pathOf (now path))) (rows (now book) used)) ≤ length (now book) ⌝ }
     ensures { λ r. ⌜ Rewritten (now (book .entry)) (now (book .exit)) r (bumpAll (countedKeys (pathOf (now (path .entry)))) (touchAll (listedKeys (pathOf (now (path .entry)))) (rows (now (book .entry)) used))) ⌝ }

@@ -9,7 +9,7 @@ ghost use Rattle.book.specs.Keys.{keyValue};
 ghost use Rattle.book.specs.Entries.{rows};
 ghost use Rattle.book.specs.Path.{pathOf, wholePath, listedKeys};
 ghost use Rattle.book.specs.Form.{capacity};
-ghost use Rattle.book.specs.Changes.{touchAll};
+ghost use Rattle.book.specs.Changes.{touchAll, EndingsListed};
 ghost use Rattle.book.specs.Recount.{occurrences};
 ghost use Rattle.book.specs.Room.{brings};
 use crate::entries::Found;
@@ -68,21 +68,36 @@ fn entries_brought(book: &[u8], used: usize, path: &[u8], j: usize) -> usize
     }
 }
 
+// How many entries the step numbered i and the child that follows it bring. A child that brings none has its node listed already.
+fn pair_brought(book: &[u8], used: usize, path: &[u8], i: usize) -> usize
+    requires { ⌜ 24 * used ≤ length (now book) ⌝ }
+    requires { ⌜ Ascends 0 (keys (rows (now book) used)) ⌝ }
+    requires { ⌜ EndingsListed (rows (now book) used) ⌝ }
+    requires { ⌜ i + 1 < length (now path) / 8 ⌝ }
+    ensures { λ r. ⌜ r ≡ brings (rows (now (book .entry)) used) (listedKeys (pathOf (now (path .entry)))) (2 * i) + brings (rows (now (book .entry)) used) (listedKeys (pathOf (now (path .entry)))) (2 * i + 1) ⌝ }
+{
+    if entries_brought(book, used, path, 2 * i + 1) == 0 {
+        return 0;
+    }
+    entries_brought(book, used, path, 2 * i) + 1
+}
+
 // How many entries there would be with the path's nodes and transitions listed.
 fn entries_with(book: &[u8], used: usize, path: &[u8]) -> usize
     requires { ⌜ wholePath (now path) ≡ true ⌝ }
     requires { ⌜ 24 * used ≤ length (now book) ⌝ }
     requires { ⌜ Ascends 0 (keys (rows (now book) used)) ⌝ }
+    requires { ⌜ EndingsListed (rows (now book) used) ⌝ }
     ensures { λ r. ⌜ r ≡ length (touchAll (listedKeys (pathOf (now (path .entry)))) (rows (now (book .entry)) used)) ⌝ }
 {
-    let keys = 2 * (path.len() / 8) - 1;
+    let last = path.len() / 8 - 1;
     let mut all = used;
-    let mut j = 0;
-    while j < keys {
-        all += entries_brought(book, used, path, j);
-        j += 1;
+    let mut i = 0;
+    while i < last {
+        all += pair_brought(book, used, path, i);
+        i += 1;
     }
-    all
+    all + entries_brought(book, used, path, 2 * last)
 }
 
 // The book has room for the path. A path of n steps lists at most 2n - 1 keys, so they are counted only where that might be too many.
@@ -90,6 +105,7 @@ pub fn has_room(book: &[u8], used: usize, path: &[u8]) -> bool
     requires { ⌜ wholePath (now path) ≡ true ⌝ }
     requires { ⌜ 24 * used ≤ length (now book) ⌝ }
     requires { ⌜ Ascends 0 (keys (rows (now book) used)) ⌝ }
+    requires { ⌜ EndingsListed (rows (now book) used) ⌝ }
     ensures { λ r. ⌜ r ≡ leb (length (touchAll (listedKeys (pathOf (now (path .entry)))) (rows (now (book .entry)) used))) (capacity (now (book .entry))) ⌝ }
 {
     let capacity = book.len() / 24;

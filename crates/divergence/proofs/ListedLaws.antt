@@ -20,13 +20,13 @@ use Rattle.priors.proofs.Tests.{both}
 use Rattle.priors.proofs.RowLaws.{ascends-from}
 use Rattle.book.specs.declared.entries.Found.{Found}
 use Rattle.book.specs.declared.entries.Found.the-variants.{At, Missing}
-use Rattle.book.specs.Keys.{noChild, endKey, keyOf, nodeOf, kindOf, childOf}
+use Rattle.book.specs.Keys.{noChild, endKey, nodeOf, kindOf, childOf}
 use Rattle.book.specs.Entries.{rowAt, rows, findIn}
 use Rattle.book.specs.Figures.{All}
 use Rattle.book.specs.Form.{plain, follows, formedAfter, formed}
-use Rattle.book.proofs.KeyLaws.{key-node, key-kind, key-parts}
+use Rattle.book.proofs.KeyLaws.{key-node, key-kind}
 use Rattle.book.proofs.EntryLaws.{length-rows, getD-rows}
-use Rattle.book.proofs.FormLaws.{formed-ascends}
+use Rattle.book.proofs.FormLaws.{formed-ascends, ending-key}
 use Rattle.divergence.specs.Nodes.{Node, childRow, spread, listedNodes, evidenceOf}
 use Rattle.divergence.specs.Parts.{part, leading, evidenceAt}
 use Rattle.divergence.proofs.WalkLaws.{nodes-ending, nodes-child, front-ending, front-child, front-children, end-le}
@@ -80,14 +80,6 @@ end-node a = key-node a 0 noChild (omega arith) no-child-lt
 end-kind : (a : ℕ) → kindOf (endKey a) ≡ 0
 unfolding endKey
 end-kind a = key-kind a 0 noChild (omega arith) no-child-lt
-
--- an ending has the key of its node's ending
-ending-key : (r : Row) → plain r ≡ true → kindOf (r .key) ≡ 0 → r .key ≡ endKey (nodeOf (r .key))
-unfolding plain endKey
-ending-key r h z =
-    let t : eqb (kindOf (r .key)) 1 || eqb (childOf (r .key)) noChild ≡ true = both (leb (r .count) (2 ^ 30)) (eqb (kindOf (r .key)) 1 || eqb (childOf (r .key)) noChild) (both (leb (kindOf (r .key)) 1) (leb (r .count) (2 ^ 30) && (eqb (kindOf (r .key)) 1 || eqb (childOf (r .key)) noChild)) h .1) .1 in
-    let c : childOf (r .key) ≡ noChild = eqb-true (childOf (r .key)) noChild (rw z at t) in
-    sym (key-parts (r .key)) ∙ ap₂ (keyOf (nodeOf (r .key))) z c
 
 -- ---- a node among nodes
 

@@ -1,7 +1,9 @@
 -- A change by key is a change by place: a row set at the place of its key, or one put in where the key would go. This ties `change` to code that
 -- searches for a place and then stores or moves rows. One view of the search (`Spot`) is made by the tests; the laws go by that view. Assumes nothing.
 use mathlib.Core.Path.{_≡_, refl, sym, ap, _∙_}
-use Prim.Native.Nat.{ℕ, zero, suc, _<_, zero-le, suc-le-suc}
+use Prim.Native.Nat.{ℕ, zero, suc, _+_, _<_, zero-le, suc-le-suc}
+use native.Mathlib.Nat.{zero-add, add-suc}
+use native.Mathlib.Numerals.{one-add}
 use native.Mathlib.Omega.{arith}
 use mathlib.Core.List.{List, [], _∷_, _++_}
 use mathlib.Core.Option.{Option, none, some}
@@ -12,6 +14,7 @@ use borrow.Author.Tests.{lt-ltb, le-ltb, eq-eqb, ne-eqb}
 use Rattle.priors.specs.Rows.{Row, row, look, front, change}
 use Rattle.priors.specs.Search.{blank, place, holds}
 use Rattle.priors.proofs.Orders.{Side, below, same, above, side, compare-lt, compare-gt, compare-self}
+use Rattle.priors.proofs.RowLaws.{gained}
 
 -- how k stands to rows: at the place i, where the row has k or not
 pub data Spot (k : ℕ) : List Row → ℕ → Bool → Type 0 where
@@ -51,6 +54,19 @@ pub look-place : (k : ℕ) (rs : List Row) → look k rs ≡ cond (holds rs (pla
 look-place k rs = look-spot k (spot k rs)
 
 -- ---- a change, by place
+
+-- a row that comes in moves the place of a key above it one up
+pub spot-moved : (c : ℕ) (step : ℕ → ℕ) (j k : ℕ) → j < k → {rs : List Row} {i : ℕ} {b : Bool} → Spot k rs i b → Spot k (change (some c) step j rs) (gained (look j rs) (some c) + i) b
+unfolding look change
+spot-moved c step j k h end = later h end
+spot-moved c step j k h (before {r} l) = rw (compare-lt j (r .key) (omega arith)) (later h (before l))
+spot-moved c step j k h (here {r} q) = rw (compare-lt j (r .key) (omega arith)) (later h (here q))
+spot-moved c step j k h (later {r} {rs} {i} {b} l s) = go (side j (r .key)) (spot-moved c step j k h s)
+  where
+    go : Side j (r .key) → Spot k (change (some c) step j rs) (gained (look j rs) (some c) + i) b → Spot k (change (some c) step j (r ∷ rs)) (gained (look j (r ∷ rs)) (some c) + suc i) b
+    go (below m e) ih = rw (e, one-add) (later h (later l s))
+    go (same q e) ih = rw (e, zero-add) (later l s)
+    go (above m e) ih = rw (e, add-suc) (later l ih)
 
 module _ (new : Option ℕ) (step : ℕ → ℕ) (k : ℕ) where
   pub change-spot : {rs : List Row} {i : ℕ} {b : Bool} → Spot k rs i b

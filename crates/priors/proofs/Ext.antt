@@ -25,7 +25,8 @@ unfolding look
 look-low k a [] l h = refl
 look-low k a (r ∷ rs) l h = rw (compare-lt k (r .key) (omega arith))
 
-never : (c : ℕ) (o : Option ℕ) → o ≡ some c → o ≡ none → ⊥
+-- what is found is not missing
+pub never : (c : ℕ) (o : Option ℕ) → o ≡ some c → o ≡ none → ⊥
 never c o p q = let z : _≡_ {A = ℕ} 0 1 = cc in omega arith
 
 same-row : (r s : Row) → r .key ≡ s .key → r .count ≡ s .count → r ≡ s

@@ -1,7 +1,7 @@
 -- What a change of one row leaves: what a look-up finds afterwards, the ascent, the length. Touch, bump and fade are three cases of one change, so each law
 -- is proved once; the last part says them for the three. Since a look-up ends at the first row that is not below its key, just where a change is made, only
 -- the law of the ascent itself asks that rows ascend. Assumes nothing.
-use mathlib.Core.Path.{_≡_, refl, sym, _∙_}
+use mathlib.Core.Path.{_≡_, refl, sym, ap, _∙_}
 use Prim.Native.Nat.{ℕ, suc, _+_, _-_, _≤_, _<_}
 use mathlib.Core.List.{List, [], _∷_}
 use mathlib.Core.Option.{Option, none, some}
@@ -108,7 +108,22 @@ module _ (new : Option ℕ) (step : ℕ → ℕ) (k : ℕ) where
       go (same q e) ih = rw e (omega arith)
       go (above m e) ih = rw e (omega arith)
 
+  -- no row goes away
+  pub grows : (rs : List Row) → length rs ≤ length (change new step k rs)
+  grows rs = omega (arith, length-change rs)
+
 -- ---- the three changes
+
+-- a key that has a row is listed already
+pub touch-found : (k c : ℕ) (rs : List Row) → look k rs ≡ some c → touch k rs ≡ rs
+unfolding look change
+touch-found k c [] h = let z : _≡_ {A = ℕ} 0 1 = cc in absurd (omega arith)
+touch-found k c (r ∷ rs) h = go (side k (r .key)) h (touch-found k c rs)
+  where
+    go : Side k (r .key) → look k (r ∷ rs) ≡ some c → (look k rs ≡ some c → touch k rs ≡ rs) → touch k (r ∷ rs) ≡ r ∷ rs
+    go (below m e) f ih = let z : _≡_ {A = ℕ} 0 1 = cc (rw e at f) in absurd (omega arith)
+    go (same q e) f ih = rw e
+    go (above m e) f ih = rw e (ap (λ (l : List Row). r ∷ l) (ih (rw e at f)))
 
 module _ (k : ℕ) (rs : List Row) where
   pub look-touch : look k (touch k rs) ≡ afterTouch (look k rs)

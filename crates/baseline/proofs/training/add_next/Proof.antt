@@ -14,7 +14,7 @@ use Rattle.book.specs.Form.{capacity}
 use Rattle.book.specs.Changes.{touchAll, bumpAll}
 use Rattle.baseline.specs.Training.{pathIn}
 use Rattle.baseline.specs.Courses.{pathNumber}
-use Rattle.baseline.proofs.HoldLaws.{held-ascends, held-counts, not-whole, no-room, taken, room-fits, held-next}
+use Rattle.baseline.proofs.HoldLaws.{held-ascends, held-endings, held-counts, not-whole, no-room, taken, room-fits, held-next}
 use borrow.Author.Needs.{needs}
 use Rattle.baseline.proofs.training.add_next.Statement.{statement}
 use Rattle.baseline.proofs.training.add_next.Tie as tie
@@ -53,7 +53,7 @@ has-room-requires c κs =
     let used = st .args .used in
     let few : i ≤ 65536 = omega (arith, st .pre .1 .0) in
     let held = st .pre .1 .1 in
-    (sym (c .before .before .whole-path .ensures) ∙ not-false _ (c .before .if1 .left), (held .used-fit, held-ascends seq first i few book used held))
+    (sym (c .before .before .whole-path .ensures) ∙ not-false _ (c .before .if1 .left), (held .used-fit, (held-ascends seq first i few book used held, held-endings seq first i few book used held)))
 
 same-length : tie.Need-same-length
 same-length c = search needs
@@ -89,7 +89,7 @@ add-steps-requires c κs =
     let room-is : c .before .before .has-room .result ≡ leb (length (touchAll (listedKeys (pathOf (pathIn seq (first + i)))) (rows book used))) (capacity book) =
     c .before .before .has-room .ensures ∙ ap (λ (l : List ℕ). leb (length (touchAll (listedKeys (pathOf l)) (rows book used))) (capacity book)) (p .path-in .ensures) in
     let fits = room-fits seq first i few book used held whole (c .before .before .has-room .result) room-is (not-false _ (c .before .if2 .left)) in
-    (sym (c .before .before .before .before .before .whole-path .ensures) ∙ not-false _ (c .before .before .before .before .if1 .left), (held .used-fit, (held-ascends seq first i few book used held, (held-counts seq first i few book used held, rw (p .path-in .ensures) fits))))
+    (sym (c .before .before .before .before .before .whole-path .ensures) ∙ not-false _ (c .before .before .before .before .if1 .left), (held .used-fit, (held-ascends seq first i few book used held, (held-endings seq first i few book used held, (held-counts seq first i few book used held, rw (p .path-in .ensures) fits)))))
 
 same-length-2 : tie.Need-same-length-2
 same-length-2 c = search needs

@@ -1,17 +1,17 @@
 -- The search finds the key's place; its count is lowered there, or a missing key is passed over.
 -- Assumes nothing.
-use mathlib.Core.Path.{_≡_, refl}
+use mathlib.Core.Path.{refl}
+use mathlib.Core.Bool.{true}
 use mathlib.Core.List.{List}
 use mathlib.Core.Option.{none}
 use Prim.Native.Nat.{ℕ, _+_, _-_, _*_}
 use native.Mathlib.Omega.{arith}
 use Rattle.priors.specs.Rows.{Row}
-use Rattle.book.specs.declared.entries.Found.the-variants.{At, Missing}
+use Rattle.priors.proofs.ByPlace.{Spot}
 use Rattle.book.specs.Keys.{keyValue}
-use Rattle.book.specs.Entries.{rows, findIn}
+use Rattle.book.specs.Entries.{rows, countAt}
 use Rattle.priors.proofs.Ranks.{word-lt}
-use Rattle.book.specs.Entries.{countAt}
-use Rattle.book.proofs.BookLaws.{at-lt, changed-at, passed-over}
+use Rattle.book.proofs.BookLaws.{spot-at, spot-missing, at-lt, changed-at, passed-over}
 use borrow.Author.Needs.{needs}
 use Rattle.book.proofs.changes.fade_key.Statement.{statement}
 use Rattle.book.proofs.changes.fade_key.Tie as tie
@@ -26,8 +26,8 @@ k st = keyValue (st .args .key)
 abbrev start-at : tie.After-i → tie.Start
 start-at c = c .before .before .before .before .before
 
-is-at : (c : tie.After-i) → findIn (rs (start-at c)) (k (start-at c)) ≡ At (c .i .given .0 .0)
-is-at c = cc
+is-at : (c : tie.After-i) → Spot (k (start-at c)) (rs (start-at c)) (c .i .given .0 .0) true
+is-at c = spot-at (k (start-at c)) (c .i .given .0 .0) (rs (start-at c)) cc
 
 find-requires : tie.Need-find-requires
 find-requires c κs = search needs
@@ -61,8 +61,7 @@ same-length-2 c = search needs
 returns-2 : tie.Need-returns-2
 returns-2 c =
     let st = c .before .before .before .before .before in
-    let missing : findIn (rs st) (k st) ≡ Missing (c .enum-told .given .0 .0) = cc in
-    passed-over (st .args .book .now) (st .args .used) (k st) (c .enum-told .given .0 .0) (st .pre .0) missing (λ d. d - 1)
+    passed-over (st .args .book .now) (st .args .used) (k st) (c .enum-told .given .0 .0) (st .pre .0) (spot-missing (k st) (c .enum-told .given .0 .0) (rs st) cc) (λ d. d - 1)
 
 pub fade-key-spec : {M : Type 1} → statement M
 fade-key-spec =

@@ -1,18 +1,16 @@
 -- The search finds the key's place; its count is raised there, or a missing key comes in.
 -- Assumes nothing.
-use mathlib.Core.Path.{_≡_, refl}
+use mathlib.Core.Path.{refl}
+use mathlib.Core.Bool.{true, false}
 use mathlib.Core.List.{List}
 use mathlib.Core.Option.{some}
 use Prim.Native.Nat.{ℕ, _+_, _-_, _^_, _≤_}
 use native.Mathlib.Omega.{arith}
 use Rattle.priors.specs.Rows.{Row}
-use Rattle.book.specs.declared.entries.Found.the-variants.{At, Missing}
+use Rattle.priors.proofs.ByPlace.{Spot}
 use Rattle.book.specs.Keys.{keyValue}
-use Rattle.book.specs.Entries.{rows, findIn}
-use Rattle.book.specs.Entries.{countAt}
-use Rattle.book.proofs.EntryLaws.{length-rows}
-use Rattle.book.proofs.ChangeLaws.{count-is}
-use Rattle.book.proofs.BookLaws.{key-in-range, at-lt, missing-le, length-in, changed-at, changed-in, count-up-to}
+use Rattle.book.specs.Entries.{rows, countAt}
+use Rattle.book.proofs.BookLaws.{spot-at, spot-missing, key-in-range, at-lt, missing-le, length-in, count-at, changed-at, changed-in}
 use borrow.Author.Needs.{needs}
 use Rattle.book.proofs.changes.note.Statement.{statement}
 use Rattle.book.proofs.changes.note.Tie as tie
@@ -27,23 +25,21 @@ k st = keyValue (st .args .key)
 abbrev start-at : tie.After-i → tie.Start
 start-at c = c .before .before .before .before .before
 
-is-at : (c : tie.After-i) → findIn (rs (start-at c)) (k (start-at c)) ≡ At (c .i .given .0 .0)
-is-at c = cc
+is-at : (c : tie.After-i) → Spot (k (start-at c)) (rs (start-at c)) (c .i .given .0 .0) true
+is-at c = spot-at (k (start-at c)) (c .i .given .0 .0) (rs (start-at c)) cc
 
 -- its count can be raised
 count-fits : (i : tie.After-i) → countAt (start-at i .args .book .now) (i .i .given .0 .0) ≤ 2 ^ 32 - 2
 count-fits i =
     let st = start-at i in
-    let l = at-lt (st .args .book .now) (st .args .used) (k st) (i .i .given .0 .0) (st .pre .0) (is-at i) in
-    let len = length-rows (st .args .book .now) (st .args .used) in
-    rw (count-is (st .args .book .now) (st .args .used) (i .i .given .0 .0) l) at (count-up-to (2 ^ 32 - 2) (rs st) (st .pre .1 .1 .0) (i .i .given .0 .0) (omega arith))
+    count-at (st .args .book .now) (st .args .used) (k st) (i .i .given .0 .0) (st .pre .0) (is-at i) (2 ^ 32 - 2) (st .pre .1 .1 .0)
 
 -- where it is missing
 abbrev start-missing : tie.After-i2 → tie.Start
 start-missing c = c .before .before .before .before .before
 
-is-missing : (c : tie.After-i2) → findIn (rs (start-missing c)) (k (start-missing c)) ≡ Missing (c .i2 .given .0 .0)
-is-missing c = cc
+is-missing : (c : tie.After-i2) → Spot (k (start-missing c)) (rs (start-missing c)) (c .i2 .given .0 .0) false
+is-missing c = spot-missing (k (start-missing c)) (c .i2 .given .0 .0) (rs (start-missing c)) cc
 
 find-requires : tie.Need-find-requires
 find-requires c κs = search needs

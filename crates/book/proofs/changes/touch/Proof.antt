@@ -1,14 +1,14 @@
 -- The search finds the key's place; a missing key comes in there.
 -- Assumes nothing.
-use mathlib.Core.Path.{_≡_}
+use mathlib.Core.Bool.{false}
 use mathlib.Core.List.{List}
 use Prim.Native.Nat.{ℕ}
 use native.Mathlib.Omega.{arith}
 use Rattle.priors.specs.Rows.{Row}
-use Rattle.book.specs.declared.entries.Found.the-variants.{At, Missing}
+use Rattle.priors.proofs.ByPlace.{Spot}
 use Rattle.book.specs.Keys.{keyValue}
-use Rattle.book.specs.Entries.{rows, findIn}
-use Rattle.book.proofs.BookLaws.{key-in-range, missing-le, length-in, touched-at, changed-in}
+use Rattle.book.specs.Entries.{rows}
+use Rattle.book.proofs.BookLaws.{spot-at, spot-missing, key-in-range, missing-le, length-in, touched-at, changed-in}
 use borrow.Author.Needs.{needs}
 use Rattle.book.proofs.changes.touch.Statement.{statement}
 use Rattle.book.proofs.changes.touch.Tie as tie
@@ -23,8 +23,8 @@ k st = keyValue (st .args .key)
 abbrev start : tie.After-i → tie.Start
 start c = c .before .before .before .before .before
 
-is-missing : (c : tie.After-i) → findIn (rs (start c)) (k (start c)) ≡ Missing (c .i .given .0 .0)
-is-missing c = cc
+is-missing : (c : tie.After-i) → Spot (k (start c)) (rs (start c)) (c .i .given .0 .0) false
+is-missing c = spot-missing (k (start c)) (c .i .given .0 .0) (rs (start c)) cc
 
 find-requires : tie.Need-find-requires
 find-requires c κs = search needs
@@ -51,8 +51,7 @@ same-length c = search needs
 returns : tie.Need-returns
 returns c =
     let st = c .before .before .before .before .before in
-    let at : findIn (rs st) (k st) ≡ At (c .enum-told .given .0 .0) = cc in
-    touched-at (st .args .book .now) (st .args .used) (k st) (c .enum-told .given .0 .0) (st .pre .0) at
+    touched-at (st .args .book .now) (st .args .used) (k st) (c .enum-told .given .0 .0) (st .pre .0) (spot-at (k st) (c .enum-told .given .0 .0) (rs st) cc)
 
 same-length-2 : tie.Need-same-length-2
 same-length-2 c = search needs

@@ -26,7 +26,7 @@ sub-last c = omega (arith, path-low (c .before .before .args .path .now) (c .bef
 loop-holds : tie.Need-loop-holds Inv-loop μ-loop
 loop-holds c =
     let st = c .before .before in
-    (omega arith, passing-start (st .args .book .now) (st .args .used) (pathOf (st .args .path .now)) (pass-room (st .args .path .now) (st .args .book .now) (st .args .used) (st .pre .1 .1 .0) (st .pre .1 .1 .1 .1)) (st .pre .1 .0) (st .pre .1 .1 .0) (st .pre .1 .1 .1 .0))
+    (omega arith, passing-start (st .args .book .now) (st .args .used) (pathOf (st .args .path .now)) (pass-room (st .args .path .now) (st .args .book .now) (st .args .used) (st .pre .1 .1 .0) (st .pre .1 .1 .1 .1 .1)) (st .pre .1 .0) (st .pre .1 .1 .0) (st .pre .1 .1 .1 .0) (st .pre .1 .1 .1 .1 .0))
 
 mul-rank-at : tie.Need-mul-rank-at Inv-loop μ-loop
 mul-rank-at c = omega arith
@@ -57,8 +57,11 @@ add-pair-requires c κs =
       (
         inv .ascends,
         (
-          counts-rise (maxCount + i) (2 ^ 31) rs (omega arith) (inv .counts-fit),
-          pair-room (st .args .book .now) (st .args .used) (pathOf (st .args .path .now)) (pass-room (st .args .path .now) (st .args .book .now) (st .args .used) (st .pre .1 .1 .0) (st .pre .1 .1 .1 .1)) (l .loop .book) (l .loop .listed) i inv (step-more (st .args .path .now) i (omega arith)) (c .before .before .rank-at .result) (c .before .rank-at2 .result) a b,
+          inv .endings-listed,
+          (
+            counts-rise (maxCount + i) (2 ^ 31) rs (omega arith) (inv .counts-fit),
+            pair-room (st .args .book .now) (st .args .used) (pathOf (st .args .path .now)) (pass-room (st .args .path .now) (st .args .book .now) (st .args .used) (st .pre .1 .1 .0) (st .pre .1 .1 .1 .1 .1)) (l .loop .book) (l .loop .listed) i inv (step-more (st .args .path .now) i (omega arith)) (c .before .before .rank-at .result) (c .before .rank-at2 .result) a b,
+          ),
         ),
       ),
     )
@@ -78,7 +81,7 @@ loop-again c =
     let r′ = c .before .before .before .before .rank-at2 in
     let a = step-at (st .args .path .now) i (omega arith) (r .result) (r .ensures) in
     let b = step-at (st .args .path .now) (i + 1) (omega arith) (r′ .result) (r′ .ensures) in
-    (omega arith, passing-on (st .args .book .now) (st .args .used) (pathOf (st .args .path .now)) (pass-room (st .args .path .now) (st .args .book .now) (st .args .used) (st .pre .1 .1 .0) (st .pre .1 .1 .1 .1)) (l .loop .book) (l .loop .listed) i (l .loop .inv .1) (step-more (st .args .path .now) i (omega arith)) (r .result) (r′ .result) a b (c .before .before .add-pair .last .0) (c .before .before .add-pair .result) (omega arith) (c .before .before .add-pair .ensures))
+    (omega arith, passing-on (st .args .book .now) (st .args .used) (pathOf (st .args .path .now)) (pass-room (st .args .path .now) (st .args .book .now) (st .args .used) (st .pre .1 .1 .0) (st .pre .1 .1 .1 .1 .1)) (l .loop .book) (l .loop .listed) i (l .loop .inv .1) (step-more (st .args .path .now) i (omega arith)) (r .result) (r′ .result) a b (c .before .before .add-pair .last .0) (c .before .before .add-pair .result) (omega arith) (omega arith) (c .before .before .add-pair .ensures))
 
 mul-rank-at-3 : tie.Need-mul-rank-at-3 Inv-loop μ-loop
 mul-rank-at-3 c = omega arith
@@ -105,7 +108,7 @@ note-requires c κs =
         inv .ascends,
         (
           counts-rise (maxCount + i) (2 ^ 32 - 2) rs (omega arith) (inv .counts-fit),
-          rw (c .ending .ensures) (end-room (st .args .book .now) (st .args .used) (pathOf (st .args .path .now)) (pass-room (st .args .path .now) (st .args .book .now) (st .args .used) (st .pre .1 .1 .0) (st .pre .1 .1 .1 .1)) (l .loop .book) (l .loop .listed) i inv (step-last (st .args .path .now) i (omega arith)) (c .before .before .rank-at3 .result) a),
+          rw (c .ending .ensures) (end-room (st .args .book .now) (st .args .used) (pathOf (st .args .path .now)) (pass-room (st .args .path .now) (st .args .book .now) (st .args .used) (st .pre .1 .1 .0) (st .pre .1 .1 .1 .1 .1)) (l .loop .book) (l .loop .listed) i inv (step-last (st .args .path .now) i (omega arith)) (c .before .before .rank-at3 .result) a),
         ),
       ),
     )
@@ -125,7 +128,7 @@ returns c =
     let met : i ≡ length (st .args .path .now) / 8 - 1 = omega arith in
     let r = c .before .before .before .before .before .rank-at3 in
     let a = step-at (st .args .path .now) i (omega arith) (r .result) (r .ensures ∙ ap (λ (k : ℕ). rankAt (st .args .path .now) (8 * k)) (sym met)) in
-    passing-done (st .args .book .now) (st .args .used) (pathOf (st .args .path .now)) (pass-room (st .args .path .now) (st .args .book .now) (st .args .used) (st .pre .1 .1 .0) (st .pre .1 .1 .1 .1)) (l .loop .book) (l .loop .listed) i (l .loop .inv .1) (step-last (st .args .path .now) i (omega arith)) (r .result) a (c .before .before .note .last .0) (c .before .before .note .result) (st .pre .1 .1 .0)
+    passing-done (st .args .book .now) (st .args .used) (pathOf (st .args .path .now)) (pass-room (st .args .path .now) (st .args .book .now) (st .args .used) (st .pre .1 .1 .0) (st .pre .1 .1 .1 .1 .1)) (l .loop .book) (l .loop .listed) i (l .loop .inv .1) (step-last (st .args .path .now) i (omega arith)) (r .result) a (c .before .before .note .last .0) (c .before .before .note .result) (st .pre .1 .1 .0)
     (rw (c .before .before .before .ending .ensures) at (c .before .before .note .ensures))
 
 pub add-steps-spec : {M : Type 1} → statement M

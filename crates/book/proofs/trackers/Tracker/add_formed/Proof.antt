@@ -3,7 +3,7 @@
 use mathlib.Core.Path.{sym, _∙_}
 use native.Mathlib.Omega.{arith}
 use borrow.Author.Tests.{not-true, not-false}
-use Rattle.book.proofs.CallLaws.{add-refused, add-taken, path-wrong, paths-full, book-full, nothing-refused, form-used, form-ascends, ready}
+use Rattle.book.proofs.CallLaws.{add-refused, add-taken, path-wrong, paths-full, book-full, nothing-refused, form-used, form-ascends, form-endings, ready}
 use borrow.Author.Needs.{needs}
 use Rattle.book.proofs.trackers.Tracker.add_formed.Statement.{statement}
 use Rattle.book.proofs.trackers.Tracker.add_formed.Tie as tie
@@ -44,7 +44,7 @@ has-room-requires c κs =
     let p = st .args .path .now in
     let w = c .before .before .before .before .before in
     let whole = sym (w .whole-path .ensures) ∙ not-false (w .whole-path .result) (c .before .before .before .before .if1 .left) in
-    (whole, (form-used t s q (st .pre), form-ascends t s q (st .pre)))
+    (whole, (form-used t s q (st .pre), (form-ascends t s q (st .pre), form-endings t s q (st .pre))))
 
 same-length : tie.Need-same-length
 same-length c = search needs

@@ -15,7 +15,7 @@ add-steps-requires : tie.Need-add-steps-requires
 add-steps-requires c κs =
     let st = c .before .before .before .before .before in
     let r = st .pre in
-    (r .path-whole, (r .used-fit, (r .ascends, (r .counts-fit, listed-fit (st .args .self) (st .args .book .now) (st .args .queue .now) (st .args .path .now) r))))
+    (r .path-whole, (r .used-fit, (r .ascends, (r .endings-listed, (r .counts-fit, listed-fit (st .args .self) (st .args .book .now) (st .args .queue .now) (st .args .path .now) r)))))
 
 let-go-requires : tie.Need-let-go-requires
 let-go-requires c κs =
