@@ -23,6 +23,8 @@ use crate::baselines::MAX_SEQUENCES;
 use crate::sums::KNOT_VALUES;
 use crate::sums::add_at;
 use book::form::book_fits;
+use book::limits::MAX_STEPS;
+use book::limits::PLACE_SIZE;
 use book::paths::add_steps;
 use book::paths::whole_path;
 use book::queue::clear;
@@ -47,9 +49,6 @@ pub enum Entries {
     Used(usize),
     Stopped(Refusal),
 }
-
-// Bytes of a path's place.
-const PLACE_SIZE: usize = 516;
 
 const MAX_PATHS: u32 = 65536;
 
@@ -145,7 +144,7 @@ fn path_in(sequences: &[u8], k: usize) -> &[u8]
 {
     let at = PLACE_SIZE * k;
     let steps = read_u32(sequences, at);
-    if steps > 64 {
+    if steps > MAX_STEPS {
         return &sequences[at..at];
     }
     oldest(sequences, at)

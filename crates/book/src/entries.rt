@@ -10,6 +10,7 @@ ghost use Rattle.priors.specs.Rows.{row, keys, Ascends};
 ghost use Rattle.book.specs.Keys.{keyValue};
 ghost use Rattle.book.specs.Entries.{keyAt, rows, rowBytes, findIn, withEntry, countAt, withCount};
 use crate::keys::Key;
+use crate::limits::ENTRY_SIZE;
 use priors::addresses::rank_at;
 use priors::addresses::write_rank;
 use priors::words::read_u32;
@@ -26,7 +27,7 @@ pub fn below(book: &[u8], i: usize, key: Key) -> bool
     requires { ⌜ 24 * i + 24 ≤ length (now book) ⌝ }
     ensures { λ r. ⌜ r ≡ ltb (keyAt (now (book .entry)) (24 * i)) (keyValue key) ⌝ }
 {
-    let at = 24 * i;
+    let at = ENTRY_SIZE * i;
     let node = rank_at(book, at);
     if node < key.node {
         return true;
@@ -50,7 +51,7 @@ pub fn same(book: &[u8], i: usize, key: Key) -> bool
     requires { ⌜ 24 * i + 24 ≤ length (now book) ⌝ }
     ensures { λ r. ⌜ r ≡ eqb (keyAt (now (book .entry)) (24 * i)) (keyValue key) ⌝ }
 {
-    let at = 24 * i;
+    let at = ENTRY_SIZE * i;
     let node = rank_at(book, at);
     if node != key.node {
         return false;
@@ -87,7 +88,7 @@ pub fn find(book: &[u8], used: usize, key: Key) -> Found
     Found::Missing(low)
 }
 
-// Moves the bytes of s from `from` up to `to` 24 places up.
+// Moves the bytes of s from `from` up to `to` an entry's size up.
 fn open_gap(s: &mut [u8], from: usize, to: usize)
     requires { ⌜ from ≤ to ⌝ }
     requires { ⌜ to + 24 ≤ length (now s) ⌝ }
@@ -96,7 +97,7 @@ fn open_gap(s: &mut [u8], from: usize, to: usize)
     let mut i = to;
     while from < i {
         i -= 1;
-        s[i + 24] = s[i];
+        s[i + ENTRY_SIZE] = s[i];
     }
 }
 
@@ -117,8 +118,8 @@ pub fn insert(book: &mut [u8], used: usize, i: usize, key: Key, count: u32)
     requires { ⌜ 24 * used + 24 ≤ length (now book) ⌝ }
     ensures { λ _. ⌜ now (book .exit) ≡ withEntry (now (book .entry)) used i (row (keyValue key) count) ⌝ }
 {
-    open_gap(book, 24 * i, 24 * used);
-    put_entry(book, 24 * i, key, count);
+    open_gap(book, ENTRY_SIZE * i, ENTRY_SIZE * used);
+    put_entry(book, ENTRY_SIZE * i, key, count);
 }
 
 // Adds 1 to the count of the entry at the place i.
@@ -127,7 +128,7 @@ pub fn bump(book: &mut [u8], i: usize)
     requires { ⌜ countAt (now book) i + 1 < 2 ^ 32 ⌝ }
     ensures { λ _. ⌜ now (book .exit) ≡ withCount (now (book .entry)) i (countAt (now (book .entry)) i + 1) ⌝ }
 {
-    let at = 24 * i + 20;
+    let at = ENTRY_SIZE * i + 20;
     let count = read_u32(book, at);
     write_u32(book, at, count + 1);
 }
@@ -144,7 +145,7 @@ pub fn fade(book: &mut [u8], i: usize)
     requires { ⌜ 24 * i + 24 ≤ length (now book) ⌝ }
     ensures { λ _. ⌜ now (book .exit) ≡ withCount (now (book .entry)) i (countAt (now (book .entry)) i - 1) ⌝ }
 {
-    let at = 24 * i + 20;
+    let at = ENTRY_SIZE * i + 20;
     let count = read_u32(book, at);
     write_u32(book, at, less(count));
 }

@@ -8,6 +8,13 @@ ghost use Rattle.book.specs.Entries.{fieldsAt, keyAt, rowAt, rows};
 ghost use Rattle.book.specs.Form.{bookFits, queueFits, plain, follows, formed, lengthsFit, stateFits, inForm, filled};
 use crate::entries::below;
 use crate::keys::Key;
+use crate::limits::ENTRY_SIZE;
+use crate::limits::MAX_ACCEPTED;
+use crate::limits::MAX_COUNT;
+use crate::limits::MAX_ENTRIES;
+use crate::limits::MAX_STEPS;
+use crate::limits::MAX_WINDOW;
+use crate::limits::PLACE_SIZE;
 use crate::trackers::Tracker;
 use priors::addresses::rank_at;
 use priors::words::read_u32;
@@ -17,33 +24,33 @@ pub fn book_fits(book: &[u8]) -> bool
     ensures { λ r. ⌜ r ≡ bookFits (now (book .entry)) ⌝ }
 {
     let n = book.len();
-    if n % 24 != 0 {
+    if n % ENTRY_SIZE != 0 {
         return false;
     }
-    if n / 24 < 1 {
+    if n / ENTRY_SIZE < 1 {
         return false;
     }
-    n / 24 <= 16384
+    n / ENTRY_SIZE <= MAX_ENTRIES
 }
 
 // A lent queue has a place for each path of the window.
 pub fn queue_fits(window: u32, queue: &[u8]) -> bool
     ensures { λ r. ⌜ r ≡ queueFits window (now (queue .entry)) ⌝ }
 {
-    516 * (window as usize) <= queue.len()
+    PLACE_SIZE * (window as usize) <= queue.len()
 }
 
 // The state is within its limits.
 fn state_fits(t: Tracker, book: &[u8]) -> bool
     ensures { λ r. ⌜ r ≡ stateFits t (now (book .entry)) ⌝ }
 {
-    if 1024 < t.window {
+    if MAX_WINDOW < t.window {
         return false;
     }
-    if book.len() / 24 < t.used as usize {
+    if book.len() / ENTRY_SIZE < t.used as usize {
         return false;
     }
-    t.accepted <= 16777216
+    t.accepted <= MAX_ACCEPTED
 }
 
 // The entry from `at`, by itself: an ending or a child, a count up to 2^30, and zeros for an ending's child address.
@@ -56,7 +63,7 @@ fn plain_at(s: &[u8], at: usize) -> bool
         return false;
     }
     let count = read_u32(s, at + 20);
-    if 1073741824 < count {
+    if MAX_COUNT < count {
         return false;
     }
     if kind == 1 {
@@ -84,11 +91,11 @@ fn follows_at(book: &[u8], i: usize) -> bool
     requires { ⌜ 24 * i + 24 ≤ length (now book) ⌝ }
     ensures { λ r. ⌜ r ≡ follows (keyAt (now (book .entry)) (24 * (i - 1))) (rowAt (now (book .entry)) (24 * i)) ⌝ }
 {
-    let key = key_of(book, 24 * i);
+    let key = key_of(book, ENTRY_SIZE * i);
     if !below(book, i - 1, key) {
         return false;
     }
-    let node = rank_at(book, 24 * (i - 1));
+    let node = rank_at(book, ENTRY_SIZE * (i - 1));
     if node == key.node {
         return true;
     }
@@ -112,7 +119,7 @@ pub fn entries_formed(book: &[u8], used: usize) -> bool
     }
     let mut i = 1;
     while i < used {
-        if !plain_at(book, 24 * i) {
+        if !plain_at(book, ENTRY_SIZE * i) {
             return false;
         }
         if !follows_at(book, i) {
@@ -131,11 +138,11 @@ pub fn lengths_fit(queue: &[u8], n: usize) -> bool
     let mut i = n;
     while 0 < i {
         i -= 1;
-        let steps = read_u32(queue, 516 * i);
+        let steps = read_u32(queue, PLACE_SIZE * i);
         if steps < 1 {
             return false;
         }
-        if 64 < steps {
+        if MAX_STEPS < steps {
             return false;
         }
     }

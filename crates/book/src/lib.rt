@@ -1,4 +1,5 @@
 // The book and the queue of one tracker.
+pub mod limits; // the numbers of document 01
 pub mod keys; // an entry's node, kind and child, and their order
 pub mod entries; // entries in bytes: find, put in, count
 pub mod changes; // a key listed, counted one more, counted one less

@@ -18,6 +18,8 @@ use crate::entries::find;
 use crate::entries::insert;
 use crate::keys::child;
 use crate::keys::ending;
+use crate::limits::MAX_STEPS;
+use crate::limits::STEP_SIZE;
 use priors::addresses::rank_at;
 
 // A path has 1 to 64 whole steps.
@@ -25,13 +27,13 @@ pub fn whole_path(path: &[u8]) -> bool
     ensures { λ r. ⌜ r ≡ wholePath (now (path .entry)) ⌝ }
 {
     let n = path.len();
-    if n % 8 != 0 {
+    if n % STEP_SIZE != 0 {
         return false;
     }
-    if n / 8 < 1 {
+    if n / STEP_SIZE < 1 {
         return false;
     }
-    n / 8 <= 64
+    n / STEP_SIZE <= MAX_STEPS as usize
 }
 
 // A node is listed and the step from it to the next counts one more. A step that has an entry has its node listed already; before one
@@ -68,16 +70,16 @@ pub fn add_steps(book: &mut [u8], used: usize, path: &[u8]) -> usize
     requires { ⌜ 24 * length (touchAll (listedKeys (pathOf (now path))) (rows (now book) used)) ≤ length (now book) ⌝ }
     ensures { λ r. ⌜ Rewritten (now (book .entry)) (now (book .exit)) r (bumpAll (countedKeys (pathOf (now (path .entry)))) (touchAll (listedKeys (pathOf (now (path .entry)))) (rows (now (book .entry)) used))) ⌝ }
 {
-    let last = path.len() / 8 - 1;
+    let last = path.len() / STEP_SIZE - 1;
     let mut listed = used;
     let mut i = 0;
     while i < last {
-        let node = rank_at(path, 8 * i);
-        let next = rank_at(path, 8 * (i + 1));
+        let node = rank_at(path, STEP_SIZE * i);
+        let next = rank_at(path, STEP_SIZE * (i + 1));
         listed = add_pair(book, listed, node, next);
         i += 1;
     }
-    let end = rank_at(path, 8 * last);
+    let end = rank_at(path, STEP_SIZE * last);
     note(book, listed, ending(end))
 }
 
@@ -88,14 +90,14 @@ pub fn take_away(book: &mut [u8], used: usize, path: &[u8])
     requires { ⌜ Ascends 0 (keys (rows (now book) used)) ⌝ }
     ensures { λ _. ⌜ Rewritten (now (book .entry)) (now (book .exit)) used (fadeAll (countedKeys (pathOf (now (path .entry)))) (rows (now (book .entry)) used)) ⌝ }
 {
-    let last = path.len() / 8 - 1;
+    let last = path.len() / STEP_SIZE - 1;
     let mut i = 0;
     while i < last {
-        let node = rank_at(path, 8 * i);
-        let next = rank_at(path, 8 * (i + 1));
+        let node = rank_at(path, STEP_SIZE * i);
+        let next = rank_at(path, STEP_SIZE * (i + 1));
         fade_key(book, used, child(node, next));
         i += 1;
     }
-    let end = rank_at(path, 8 * last);
+    let end = rank_at(path, STEP_SIZE * last);
     fade_key(book, used, ending(end));
 }

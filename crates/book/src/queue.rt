@@ -4,6 +4,8 @@ ghost use Prim.Native.Nat.{_+_, _*_, _≤_};
 ghost use lib.ListN.{length, take, drop};
 ghost use Rattle.priors.specs.Word.{word, store};
 ghost use Rattle.book.specs.Calls.{zeros, placeBytes};
+use crate::limits::PLACE_SIZE;
+use crate::limits::STEP_SIZE;
 use priors::words::read_u32;
 use priors::words::write_u32;
 
@@ -37,7 +39,7 @@ pub fn oldest(queue: &[u8], at: usize) -> &[u8]
 {
     let steps = read_u32(queue, at) as usize;
     let from = at + 4;
-    let to = from + 8 * steps;
+    let to = from + STEP_SIZE * steps;
     &queue[from..to]
 }
 
@@ -47,11 +49,11 @@ pub fn put_path(queue: &mut [u8], at: usize, path: &[u8])
     requires { ⌜ length (now path) ≤ 512 ⌝ }
     ensures { λ _. ⌜ now (queue .exit) ≡ store (now (queue .entry)) at (placeBytes (now (path .entry))) ⌝ }
 {
-    let steps = (path.len() / 8) as u32;
+    let steps = (path.len() / STEP_SIZE) as u32;
     write_u32(queue, at, steps);
     let from = at + 4;
     let to = from + path.len();
     copy_over(&mut queue[from..to], path);
-    let end = at + 516;
+    let end = at + PLACE_SIZE;
     clear(&mut queue[to..end]);
 }

@@ -18,6 +18,8 @@ use crate::keys::Key;
 use crate::keys::child;
 use crate::keys::ending;
 use crate::keys::same_key;
+use crate::limits::ENTRY_SIZE;
+use crate::limits::STEP_SIZE;
 use priors::addresses::rank_at;
 
 // The key numbered j of those that a path lists: a step's ending, then the child that follows it, and so on.
@@ -26,11 +28,11 @@ fn listed_key(path: &[u8], j: usize) -> Key
     ensures { λ r. ⌜ keyValue r ≡ getD (listedKeys (pathOf (now (path .entry)))) j 0 ⌝ }
 {
     let i = j / 2;
-    let node = rank_at(path, 8 * i);
+    let node = rank_at(path, STEP_SIZE * i);
     if j % 2 == 0 {
         return ending(node);
     }
-    let next = rank_at(path, 8 * (i + 1));
+    let next = rank_at(path, STEP_SIZE * (i + 1));
     child(node, next)
 }
 
@@ -90,7 +92,7 @@ fn entries_with(book: &[u8], used: usize, path: &[u8]) -> usize
     requires { ⌜ EndingsListed (rows (now book) used) ⌝ }
     ensures { λ r. ⌜ r ≡ length (touchAll (listedKeys (pathOf (now (path .entry)))) (rows (now (book .entry)) used)) ⌝ }
 {
-    let last = path.len() / 8 - 1;
+    let last = path.len() / STEP_SIZE - 1;
     let mut all = used;
     let mut i = 0;
     while i < last {
@@ -108,8 +110,8 @@ pub fn has_room(book: &[u8], used: usize, path: &[u8]) -> bool
     requires { ⌜ EndingsListed (rows (now book) used) ⌝ }
     ensures { λ r. ⌜ r ≡ leb (length (touchAll (listedKeys (pathOf (now (path .entry)))) (rows (now (book .entry)) used))) (capacity (now (book .entry))) ⌝ }
 {
-    let capacity = book.len() / 24;
-    let most = used + 2 * (path.len() / 8) - 1;
+    let capacity = book.len() / ENTRY_SIZE;
+    let most = used + 2 * (path.len() / STEP_SIZE) - 1;
     if most <= capacity {
         return true;
     }

@@ -12,6 +12,9 @@ ghost use Rattle.book.specs.Calls.{openedNumber, openedState, addedNumbe
 use crate::form::book_fits;
 use crate::form::in_form;
 use crate::form::queue_fits;
+use crate::limits::MAX_ACCEPTED;
+use crate::limits::MAX_WINDOW;
+use crate::limits::PLACE_SIZE;
 use crate::paths::add_steps;
 use crate::paths::take_away;
 use crate::paths::whole_path;
@@ -47,7 +50,7 @@ impl Tracker {
         ensures { λ r. ⌜ now (book .exit) ≡ openBook window (now (book .entry)) (now (queue .entry)) ⌝ }
         ensures { λ r. ⌜ now (queue .exit) ≡ openQueue window (now (book .entry)) (now (queue .entry)) ⌝ }
     {
-        if 1024 < window {
+        if MAX_WINDOW < window {
             return Opened::Refused(Refusal::Window);
         }
         if !book_fits(book) {
@@ -89,7 +92,7 @@ impl Tracker {
         if !whole_path(path) {
             return Added::Refused(Refusal::PathLength, self);
         }
-        if 16777216 <= self.accepted {
+        if MAX_ACCEPTED <= self.accepted {
             return Added::Refused(Refusal::PathsFull, self);
         }
         if !has_room(book, self.used as usize, path) {
@@ -119,7 +122,7 @@ impl Tracker {
         requires { ⌜ 1 ≤ self .window ⌝ }
         ensures { λ r. ⌜ r ≡ nextPlace self ⌝ }
     {
-        516 * ((self.accepted % self.window) as usize)
+        PLACE_SIZE * ((self.accepted % self.window) as usize)
     }
 
     // Takes the oldest path past the window away, if the window is full.

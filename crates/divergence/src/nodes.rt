@@ -5,9 +5,8 @@ ghost use lib.ListN.{length};
 ghost use Rattle.priors.specs.Priors.{countSum};
 ghost use Rattle.book.specs.Limits.{maxEntries};
 ghost use Rattle.divergence.specs.Parts.{part, leading};
+use book::limits::ENTRY_SIZE;
 use priors::words::read_u32;
-
-pub const ENTRY_SIZE: usize = 24;
 
 // The first place from i on whose entry is an ending, or `used`.
 pub fn children_end(book: &[u8], used: usize, i: usize) -> usize

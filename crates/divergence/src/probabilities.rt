@@ -13,6 +13,7 @@ ghost use Rattle.divergence.specs.Nodes.{childRow};
 ghost use Rattle.divergence.specs.Probability.{figure, figuresOf};
 ghost use Rattle.divergence.specs.Merge.{mergedFrom, Mergeable, ofRecord, ofEntry, FirstMerged, sizeOf};
 ghost use Rattle.divergence.specs.Readings.{filledAddresses, filledFigures};
+use book::limits::ENTRY_SIZE;
 use priors::addresses::rank_at;
 use priors::addresses::write_rank;
 use priors::records::Record;
@@ -45,7 +46,7 @@ pub fn child_at(book: &[u8], i: usize) -> Child
     requires { ⌜ entrySize * i + 24 ≤ length (now book) ⌝ }
     ensures { λ r. ⌜ row (r .rank) (r .count) ≡ childRow (rowAt (now (book .entry)) (entrySize * i)) ⌝ }
 {
-    let at = 24 * i;
+    let at = ENTRY_SIZE * i;
     Child {
         rank: rank_at(book, at + 12),
         count: read_u32(book, at + 20),

@@ -25,6 +25,7 @@ use crate::probabilities::figure;
 use crate::probabilities::fill;
 use crate::probabilities::merged_size;
 use book::form::in_form;
+use book::limits::ENTRY_SIZE;
 use book::trackers::Tracker;
 use priors::addresses::rank_of;
 use priors::checks::check_priors;
@@ -87,7 +88,7 @@ fn posterior_vector(
     let first = prior.link as usize;
     match find_listed(book, used, rank) {
         Listed::Entries(i, to) => {
-            let ending = prior.count as u64 + read_u32(book, 24 * i + 20) as u64;
+            let ending = prior.count as u64 + read_u32(book, ENTRY_SIZE * i + 20) as u64;
             vector(children, first, book, i + 1, to, ending, addresses, figures)
         }
         Listed::Unlisted => vector(
@@ -119,7 +120,7 @@ fn evidence_vector(
             if count_total(book, i, to) == 0 {
                 return ProbVector::NoVector;
             }
-            let ending = read_u32(book, 24 * i + 20) as u64;
+            let ending = read_u32(book, ENTRY_SIZE * i + 20) as u64;
             vector(b"", 0, book, i + 1, to, ending, addresses, figures)
         }
         Listed::Unlisted => ProbVector::NoVector,

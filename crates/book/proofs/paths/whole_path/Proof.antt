@@ -3,6 +3,7 @@
 use Prim.Native.Nat.{_/_, _%_}
 use native.Mathlib.Omega.{arith}
 use lib.ListN.{length}
+use borrow.Author.Needs.{needs}
 use borrow.Author.Tests.{le-leb, lt-leb, eq-eqb, ne-eqb}
 use Rattle.book.specs.Path.{wholePath}
 use Rattle.book.proofs.paths.whole_path.Statement.{statement}
@@ -20,6 +21,9 @@ returns-2 c =
     let n = length (c .before .before .args .path .now) in
     rw (eq-eqb (n % 8) 0 (omega arith), lt-leb 1 (n / 8) (omega arith))
 
+cast-result : tie.Need-cast-result
+cast-result c = search needs
+
 returns-3 : tie.Need-returns-3
 unfolding wholePath
 returns-3 c =
@@ -27,4 +31,4 @@ returns-3 c =
     rw (eq-eqb (n % 8) 0 (omega arith), le-leb 1 (n / 8) (omega arith))
 
 pub whole-path-spec : {M : Type 1} → statement M
-whole-path-spec = tie.close (tie.spec returns returns-2 returns-3)
+whole-path-spec = tie.close (tie.spec returns returns-2 cast-result returns-3)
