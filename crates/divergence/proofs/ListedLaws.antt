@@ -25,6 +25,7 @@ use Rattle.book.specs.Entries.{rowAt, rows, findIn}
 use Rattle.book.specs.Figures.{All}
 use Rattle.book.specs.Form.{plain, follows, formedAfter, formed}
 use Rattle.book.proofs.KeyLaws.{key-node, key-kind}
+use Rattle.book.proofs.ListingForm.{node-end, kind-end}
 use Rattle.book.proofs.EntryLaws.{length-rows, getD-rows}
 use Rattle.book.proofs.FormLaws.{formed-ascends, ending-key}
 use Rattle.divergence.specs.Nodes.{Node, childRow, spread, listedNodes, evidenceOf}
@@ -70,17 +71,6 @@ formed-at (r ∷ rs) i h l = go i l (both (eqb (kindOf (r .key)) 0) (formedAfter
     go zero l f = f
     go (suc j) l f = formed-on (r .key) rs j f (omega arith)
 
-no-child-lt : noChild < 2 ^ 64
-no-child-lt = rank-lt 0 0 (omega arith)
-
-end-node : (a : ℕ) → nodeOf (endKey a) ≡ a
-unfolding endKey
-end-node a = key-node a 0 noChild (omega arith) no-child-lt
-
-end-kind : (a : ℕ) → kindOf (endKey a) ≡ 0
-unfolding endKey
-end-kind a = key-kind a 0 noChild (omega arith) no-child-lt
-
 -- ---- a node among nodes
 
 module _ (a : ℕ) where
@@ -108,7 +98,7 @@ module _ (a : ℕ) where
   unfolding listedNodes spread evidenceOf
   listed p h end = refl
   listed p h (before {r} {rs} l) = absent (r ∷ rs) p (l, h .1)
-  listed p h (here {r} {rs} q) = rw (nodes-ending r rs (eq-eqb (kindOf (r .key)) 0 (ap kindOf (sym q) ∙ end-kind a)), eq-eqb (nodeOf (r .key)) a (ap nodeOf (sym q) ∙ end-node a))
+  listed p h (here {r} {rs} q) = rw (nodes-ending r rs (eq-eqb (kindOf (r .key)) 0 (ap kindOf (sym q) ∙ kind-end a)), eq-eqb (nodeOf (r .key)) a (ap nodeOf (sym q) ∙ node-end a))
   listed p h (later {r} {rs} l s) = passed r rs (p .0) (λ e. omega arith) ∙ listed (p .1) (ascends-from 0 (suc (r .key)) (keys rs) (omega arith) (h .1)) s
 
   module _ (rs : List Row) (form : formed rs ≡ true) where
