@@ -20,7 +20,7 @@ use Rattle.divergence.specs.Numbers.{tiny64}
 use Rattle.divergence.specs.Statistics.{Place, Walk, stopped as ended, walked, walk, noStats, counted, noted, statsOver}
 use Rattle.divergence.specs.Readings.{unless, statsReadingOf, statsReading}
 use Rattle.divergence.specs.RecountNodes.{recountNodes}
-use Rattle.baseline.specs.Training.{Lent, Input, Until, stopped, reached, andThen, unlessStopped, recorded, pathIn, recountStats, recordsFrom, sequenceRecords, knotCount, knotLengths}
+use Rattle.baseline.specs.Training.{Lent, Until, stopped, reached, andThen, unlessStopped, recorded, pathIn, recountStats, recordsFrom, sequenceRecords, knotCount, knotLengths}
 use Rattle.baseline.specs.Claims.{RecordForEachKnot}
 use Rattle.baseline.proofs.SampleLaws.{knotsBefore, knot-of, count-is, grows}
 

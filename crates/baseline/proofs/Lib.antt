@@ -1,6 +1,5 @@
--- `KnotLaws` has the laws of rising knots and of how many are not above a length, `SumLaws` those of values that hold a list of sum records.
+-- `KnotLaws` has the laws of rising knots and of how many are not above a length.
 pub mod KnotLaws
-pub mod SumLaws
 -- Training: what is tested before; slices that are filled from their start; which paths are sampled; how it goes on path by path; what the book holds meanwhile;
 -- how many divergences are counted; what is left in the end.
 pub mod InputLaws

@@ -27,6 +27,7 @@ use Rattle.divergence.specs.Statistics as Walks
 use Rattle.divergence.specs.Probability.{figure}
 use Rattle.divergence.specs.Probability as Probability
 use Rattle.divergence.specs.Readings.{Reading, refused, nothing, answered, Divergences, Statistics, formRefusal, nodesOf, sequenceLen, withPrior, klReading, allReading, statsReading, probReading, evidenceReading}
+use Rattle.divergence.specs.Corollaries.{readingNumber}
 use Rattle.divergence.specs.declared.statistics.KLDivergenceStats.{KLDivergenceStats}
 use Rattle.baseline.specs.declared.figures.KLDivergenceBaselineStats.{KLDivergenceBaselineStats}
 use Rattle.baseline.specs.Sums.{added, sumsAt, putSums}
@@ -39,12 +40,6 @@ every [] = true
 every (b ∷ bs) = b && every bs
 
 -- ---- what a row asks of an answer
-
--- the number of a refusal; 0 where there is none
-abbrev pub refusalOf : {X : Type 0} → Reading X → ℕ
-refusalOf (refused n node) = n
-refusalOf nothing = 0
-refusalOf (answered x) = 0
 
 -- mean and variance of the maxima
 abbrev pub maximaAre : Float → Float → Reading KLDivergenceBaselineStats → Bool
@@ -193,7 +188,7 @@ rows =
     ∷ figuresAre (fdiv (flt 2) (flt 7)) (fdiv (flt 3) (flt 7)) (fdiv (flt 2) (flt 7)) (probabilities (tracker 3 (first ∷ second ∷ [])) (rank 1 7))
     ∷ isNothing (evidenceOnly (tracker 3 (first ∷ second ∷ [])) (rank 0 9))
     -- tables ending at 6: 15
-    ∷ eqb (refusalOf (kl (tracker 3 (first ∷ second ∷ [])) 6 (rank 1 7))) 15
+    ∷ eqb (readingNumber (kl (tracker 3 (first ∷ second ∷ [])) 6 (rank 1 7))) 15
     -- first add, book of two entries: 12; of three: taken
     ∷ eqb (firstAdd 2) 12
     ∷ eqb (firstAdd 3) 0
@@ -205,7 +200,7 @@ rows =
     ∷ maximaAre zero64 zero64 (twoKnots 0)
     -- one knot at 1: answered at 1, 18 at 2
     ∷ maximaAre (flt 8) zero64 (oneKnot 1)
-    ∷ eqb (refusalOf (oneKnot 2)) 18
+    ∷ eqb (readingNumber (oneKnot 2)) 18
     ∷ []
 
 pub rows-hold : T (every rows)

@@ -27,17 +27,11 @@ use Rattle.divergence.specs.Statistics.{walk}
 use Rattle.divergence.specs.Readings.{statsReadingOf}
 use Rattle.divergence.specs.declared.statistics.KLDivergenceStats.{KLDivergenceStats}
 use Rattle.baseline.specs.Sums.{added, sumsAt, putSums}
-use Rattle.baseline.specs.Training.{Lent, Input, Until, stopped, reached, pathIn, recorded, recountStats, unlessStopped, addRecords, addAll}
+use Rattle.baseline.specs.Training.{Lent, Until, stopped, reached, pathIn, recorded, recountStats, unlessStopped, addRecords, addAll}
 use Rattle.baseline.specs.declared.training.Entries.{Entries}
 use Rattle.baseline.specs.declared.training.Entries.the-variants.{Used, Stopped}
 
--- ---- arguments
-
-abbrev pub lentOf : List Float → List Float → List ℕ → List ℕ → List ℕ → ℕ → Lent
-lentOf G D nodes children sequences rate = record { G = G; D = D; nodes = nodes; children = children; sequences = sequences; rate = rate }
-
-abbrev pub inputOf : List Float → List Float → List ℕ → List ℕ → List ℕ → ℕ → ℕ → ℕ → Input
-inputOf G D nodes children sequences s n rate = record { lent = lentOf G D nodes children sequences rate; s = s; n = n }
+-- ---- what is lent
 
 -- no number below 9 turns them back
 pub record Accepted (x : Lent) : Type 0 where

@@ -51,5 +51,6 @@ weight i left right = fdiv (flt (i - left)) (flt (right - left))
 abbrev pub zeroPair : MeanVar
 zeroPair = record { mean = zero64; variance = zero64 }
 
-abbrev pub zeros : KLDivergenceBaselineStats
-zeros = record { max = zeroPair; min = zeroPair; «nz_count» = zeroPair; «moment1_nz» = zeroPair; «moment2_nz» = zeroPair }
+-- all zeros: below the first knot, or with no knots
+abbrev pub noFigures : KLDivergenceBaselineStats
+noFigures = record { max = zeroPair; min = zeroPair; «nz_count» = zeroPair; «moment1_nz» = zeroPair; «moment2_nz» = zeroPair }

@@ -16,7 +16,7 @@ use Rattle.baseline.specs.declared.baselines.BaselineStats.{BaselineStat
 use Rattle.baseline.specs.declared.baselines.BaselineStats.the-variants.{Figures, Refused}
 use Rattle.baseline.specs.Limits.{maxSequences, maxKnots, knotValues}
 use Rattle.baseline.specs.Sums.{sumsAt}
-use Rattle.baseline.specs.Figures.{toMeanVar, interpolated, weight, zeros}
+use Rattle.baseline.specs.Figures.{toMeanVar, interpolated, weight, noFigures}
 
 -- the knot numbered k from 0
 abbrev pub knotAt : List ℕ → ℕ → ℕ
@@ -41,7 +41,7 @@ lineFigures knots values s i k =
 -- with n knots not above i: below the first or no knots, at a knot, between two, past the last
 unfoldable pub figuresAfter : List ℕ → List Float → ℕ → ℕ → ℕ → KLDivergenceBaselineStats
 figuresAfter knots values s i n =
-    cond (eqb n 0) zeros
+    cond (eqb n 0) noFigures
     (cond (eqb (knotAt knots (n - 1)) i) (knotFigures values s (n - 1))
     (cond (ltb n (length knots)) (lineFigures knots values s i (n - 1))
     (lineFigures knots values s i (n - 2))))

@@ -1,10 +1,10 @@
 -- A knot's sum record: of each of the five figures its sum over the sequences and the sum of its squares, and where they lie as ten values of a lent slice.
 -- Assumes nothing.
 use Prim.Native.Nat.{ℕ, _+_, _*_}
-use mathlib.Core.List.{List, [], _∷_}
+use mathlib.Core.List.{List}
 use lib.ListN.{getD, set}
 use lib.Ieee.{Float, nan}
-use Rattle.divergence.specs.Numbers.{fadd, fmul, flt, zero64}
+use Rattle.divergence.specs.Numbers.{fadd, fmul, flt}
 use Rattle.divergence.specs.declared.statistics.KLDivergenceStats.{KLDivergenceStats}
 use Rattle.baseline.specs.Limits.{knotValues}
 use Rattle.baseline.specs.declared.sums.SumPair.{SumPair}
@@ -28,20 +28,7 @@ added s r = record {
   «moment2_nz» = withValue (s .«moment2_nz») (r .«moment2_nz»);
 }
 
-abbrev pub noPair : SumPair
-noPair = record { sum = zero64; squares = zero64 }
-
-abbrev pub noSums : KnotSums
-noSums = record { max = noPair; min = noPair; «nz_count» = noPair; «moment1_nz» = noPair; «moment2_nz» = noPair }
-
 -- ---- ten values a knot: for maximum, minimum, number, sum and sum of squares in turn, the sum of the figure and then the sum of its squares
-
-abbrev pub pairValues : SumPair → List Float → List Float
-pairValues p more = p .sum ∷ p .squares ∷ more
-
-abbrev pub valuesOf : KnotSums → List Float
-valuesOf s =
-    pairValues (s .max) (pairValues (s .min) (pairValues (s .«nz_count») (pairValues (s .«moment1_nz») (pairValues (s .«moment2_nz») []))))
 
 abbrev pub pairAt : List Float → ℕ → SumPair
 pairAt v at = record { sum = getD v at nan; squares = getD v (at + 1) nan }

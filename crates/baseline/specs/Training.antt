@@ -44,6 +44,13 @@ pub record Input : Type 0 where
   pub s : ℕ
   pub n : ℕ
 
+-- these from a call's arguments
+abbrev pub lentOf : List Float → List Float → List ℕ → List ℕ → List ℕ → ℕ → Lent
+lentOf G D nodes children sequences rate = record { G = G; D = D; nodes = nodes; children = children; sequences = sequences; rate = rate }
+
+abbrev pub inputOf : List Float → List Float → List ℕ → List ℕ → List ℕ → ℕ → ℕ → ℕ → Input
+inputOf G D nodes children sequences s n rate = record { lent = lentOf G D nodes children sequences rate; s = s; n = n }
+
 -- ---- the numbers before the work
 
 -- how many i below n have i mod rate = 0: n / rate, rounded up
@@ -102,7 +109,7 @@ pathIn sequences k =
     let steps = word sequences (placeSize * k) in
     cond (leb steps maxSteps) (take (stepSize * steps) (drop (placeSize * k + 4) sequences)) []
 
--- the statistics that a reading answers
+-- the statistics that a reading answers; `kl_div_stats` never gives none, and the second line is there because a reading has three cases
 abbrev pub recorded : Reading Statistics → Until KLDivergenceStats
 recorded (refused n node) = stopped n node
 recorded nothing = stopped 0 none

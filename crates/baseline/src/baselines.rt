@@ -8,9 +8,9 @@ ghost use Rattle.baseline.specs.Limits.{knotValues};
 ghost use Rattle.baseline.specs.Stats.{knotAt, notAbove, knotFigures, lineFigures, figuresAt, rising, baselineFits, pastOneKnot, baselineReading, baselineAnswer};
 use crate::figures::KLDivergenceBaselineStats;
 use crate::figures::interpolate;
+use crate::figures::no_figures;
 use crate::figures::to_mean_var;
 use crate::figures::weight;
-use crate::figures::zeros;
 use crate::sums::KNOT_VALUES;
 use crate::sums::sums_at;
 use priors::refusals::Refusal;
@@ -126,7 +126,7 @@ fn figures_at(knots: &[u32], values: &[f64], s: u32, i: u32) -> KLDivergenceBase
 {
     let n = not_above(knots, i);
     if n == 0 {
-        return zeros();
+        return no_figures();
     }
     if knot_at(knots, n - 1) == i {
         return knot_figures(values, s, n - 1);

@@ -1,7 +1,7 @@
 // Mean and variance of the five figures at a knot, and the straight line between two knots. Every operation is rounded once.
 ghost use mathlib.Core.Path.{_≡_};
 ghost use Prim.Native.Nat.{_≤_, _<_};
-ghost use Rattle.baseline.specs.Figures.{meanVar, toMeanVar, onLine, pairOnLine, interpolated, weight as «weight-of», zeros as «zeros-of»};
+ghost use Rattle.baseline.specs.Figures.{meanVar, toMeanVar, onLine, pairOnLine, interpolated, weight as «weight-of», noFigures};
 use crate::sums::KnotSums;
 use crate::sums::SumPair;
 
@@ -62,7 +62,7 @@ fn pair_on_line(a: MeanVar, b: MeanVar, w: f64) -> MeanVar
     }
 }
 
-// Means and variances alike.
+// The figures on the line through a and b at the weight w, means and variances alike.
 pub fn interpolate(
     a: KLDivergenceBaselineStats,
     b: KLDivergenceBaselineStats,
@@ -92,8 +92,8 @@ pub(crate) fn weight(i: u32, left: u32, right: u32) -> f64
     (i - left) as f64 / (right - left) as f64
 }
 
-pub(crate) fn zeros() -> KLDivergenceBaselineStats
-    ensures { λ r. ⌜ r ≡ «zeros-of» ⌝ }
+pub(crate) fn no_figures() -> KLDivergenceBaselineStats
+    ensures { λ r. ⌜ r ≡ noFigures ⌝ }
 {
     let zero = MeanVar {
         mean: 0.0,

@@ -72,7 +72,7 @@ pub(crate) fn add(sums: &mut KnotSums, stats: KLDivergenceStats)
     *sums = added(*sums, stats);
 }
 
-// A local is lent to `add` and comes back.
+// `added` by way of `add`: a local is lent and comes back. It stands apart from `add_at` because that loan is proved by hand.
 pub(crate) fn with_added(sums: KnotSums, stats: KLDivergenceStats) -> KnotSums
     requires { ⌜ stats .«nz_count» ≤ maxEntries ⌝ }
     ensures { λ r. ⌜ r ≡ «added-of» sums stats ⌝ }

@@ -4,7 +4,7 @@ ghost use mathlib.Core.Path.{_≡_};
 ghost use mathlib.Core.Bool.{true};
 ghost use mathlib.Core.List.{_++_};
 ghost use mathlib.Core.Option.{none};
-ghost use Prim.Native.Nat.{ℕ, _+_, _-_, _*_, _/_, _%_, _≤_, _<_};
+ghost use Prim.Native.Nat.{ℕ, _+_, _*_, _/_, _%_, _≤_, _<_};
 ghost use lib.ListN.{length, drop, replicate};
 ghost use Rattle.priors.specs.Refusals.{checkedNumber};
 ghost use Rattle.priors.specs.Tables.{tablesRefusal};
@@ -16,8 +16,8 @@ ghost use Rattle.book.specs.Claims.{restarted};
 ghost use Rattle.book.specs.Calls.{zeros};
 ghost use Rattle.divergence.specs.Numbers.{zero64};
 ghost use Rattle.baseline.specs.Limits.{maxSequences, maxPaths, knotValues};
-ghost use Rattle.baseline.specs.Training.{knotCount, inputFits, knotRoom, sizesRefusal, trainRefusal, pathIn, recordsFrom, allRecords, started, knotLengths, trainReading, trainBook, trainKnots, trainValues, trainAnswer};
-ghost use Rattle.baseline.specs.Courses.{lentOf, inputOf, checkedNode, Accepted, Holds, Added, bookStats, sampled, entered, allEntered, ended, Went};
+ghost use Rattle.baseline.specs.Training.{lentOf, inputOf, knotCount, inputFits, knotRoom, sizesRefusal, trainRefusal, pathIn, recordsFrom, allRecords, started, knotLengths, trainReading, trainBook, trainKnots, trainValues, trainAnswer};
+ghost use Rattle.baseline.specs.Courses.{checkedNode, Accepted, Holds, Added, bookStats, sampled, entered, allEntered, ended, Went};
 use crate::baselines::MAX_KNOTS;
 use crate::baselines::MAX_SEQUENCES;
 use crate::sums::KNOT_VALUES;
@@ -252,7 +252,6 @@ fn run_sequence(
     requires { ⌜ bookFits (now book) ≡ true ⌝ }
     ensures { λ r. ⌜ ended r (now (values .exit)) ≡ entered 0 (recordsFrom (lentOf (now (g .entry)) (now (d .entry)) (now (nodes .entry)) (now (children .entry)) (now (sequences .entry)) rate) first (restarted 0 (length (now (book .entry))) 0) 0 n) (now (values .entry)) ⌝ }
 {
-    clear(book);
     let mut used = 0;
     let mut i = 0;
     while i < n {

@@ -1,7 +1,6 @@
 // Training a baseline, and its means and variances at a length.
 ghost use mathlib.Core.Path.{_≡_};
-ghost use Rattle.baseline.specs.Courses.{inputOf};
-ghost use Rattle.baseline.specs.Training.{trainReading, trainBook, trainKnots, trainValues};
+ghost use Rattle.baseline.specs.Training.{inputOf, trainReading, trainBook, trainKnots, trainValues};
 ghost use Rattle.baseline.specs.Stats.{baselineReading};
 ghost use Rattle.exports.specs.Codes.{code, written, scaleNamed, pointNamed};
 ghost use Rattle.exports.specs.Outputs.{itself, tenFigures};

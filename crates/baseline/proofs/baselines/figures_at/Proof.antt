@@ -12,12 +12,12 @@ use Rattle.baseline.proofs.baselines.figures_at.Tie as tie
 not-above-requires : tie.Need-not-above-requires
 not-above-requires c κs = search needs
 
-zeros-requires : tie.Need-zeros-requires
-zeros-requires c κs = search needs
+no-figures-requires : tie.Need-no-figures-requires
+no-figures-requires c κs = search needs
 
 returns : tie.Need-returns
 unfolding figuresAt figuresAfter
-returns c = rw (← (c .before .before .not-above .ensures .0)) (simp (eq-eqb _ _ (c .before .if1 .taken), c .zeros .ensures))
+returns c = rw (← (c .before .before .not-above .ensures .0)) (simp (eq-eqb _ _ (c .before .if1 .taken), c .no-figures .ensures))
 
 sub-knot-at : tie.Need-sub-knot-at
 sub-knot-at c = search needs
@@ -89,7 +89,7 @@ figures-at-spec =
     tie.close
     (tie.spec
     not-above-requires
-    zeros-requires
+    no-figures-requires
     returns
     sub-knot-at
     knot-at-requires

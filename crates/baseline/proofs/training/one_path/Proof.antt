@@ -6,7 +6,8 @@ use lib.ListN.{length}
 use Rattle.priors.specs.declared.refusals.Checked.{Checked}
 use Rattle.baseline.specs.declared.training.Entries.{Entries}
 use Rattle.baseline.specs.declared.training.Entries.the-variants.{Used, Stopped}
-use Rattle.baseline.specs.Courses.{lentOf, Added, ended}
+use Rattle.baseline.specs.Training.{lentOf}
+use Rattle.baseline.specs.Courses.{Added, ended}
 use Rattle.baseline.proofs.CourseLaws.{refused-path}
 use Rattle.baseline.proofs.HoldLaws.{few-entries, path-done}
 use borrow.Author.Needs.{needs}

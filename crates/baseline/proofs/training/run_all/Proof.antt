@@ -9,8 +9,8 @@ use lib.ListN.{length}
 use Rattle.priors.specs.declared.refusals.Checked.{Checked}
 use Rattle.priors.specs.Refusals.{numberOf, namedNode}
 use Rattle.book.specs.Claims.{restarted}
-use Rattle.baseline.specs.Training.{recordsFrom, sequenceRecords}
-use Rattle.baseline.specs.Courses.{inputOf, entered, ended}
+use Rattle.baseline.specs.Training.{inputOf, recordsFrom, sequenceRecords}
+use Rattle.baseline.specs.Courses.{entered, ended}
 use Rattle.baseline.proofs.CourseLaws.{allLeft, every-sequence-left, no-sequence-left, sequence-stops, sequence-goes}
 use Rattle.baseline.proofs.HoldLaws.{fits-same}
 use Rattle.baseline.proofs.training.run_all.Statement.{statement}

@@ -6,15 +6,14 @@ use native.Mathlib.Numerals.{add-one}
 use native.Mathlib.Omega.{arith}
 use borrow.Author.Needs.{needs}
 use lib.ListN.{length}
-use Rattle.book.specs.Claims.{restarted}
 use Rattle.priors.specs.Refusals.{numberOf, namedNode}
 use Rattle.baseline.specs.declared.training.Entries.{Entries}
 use Rattle.baseline.specs.declared.training.Entries.the-variants.{Used, Stopped}
-use Rattle.baseline.specs.Training.{knotCount, recordsFrom}
-use Rattle.baseline.specs.Courses.{lentOf, Holds, onePath, entered, Went}
+use Rattle.baseline.specs.Training.{lentOf, knotCount}
+use Rattle.baseline.specs.Courses.{Holds, onePath, Went}
 use Rattle.baseline.proofs.SampleLaws.{knot-lt, values-lt}
 use Rattle.baseline.proofs.CourseLaws.{left, all-left, none-left, path-stops, path-goes}
-use Rattle.baseline.proofs.HoldLaws.{fits-same, held-none}
+use Rattle.baseline.proofs.HoldLaws.{held-none}
 use Rattle.baseline.proofs.training.run_sequence.Statement.{statement}
 use Rattle.baseline.proofs.training.run_sequence.Tie as tie
 
@@ -29,25 +28,21 @@ Inv-loop g d nodes children sequences n rate first book₀ values₀ used₀ i�
 abbrev μ-loop : tie.MeasureT-loop
 μ-loop g d nodes children sequences n rate first book₀ values₀ used₀ i₀ book values used i = n - i
 
-clear-requires : tie.Need-clear-requires Inv-loop μ-loop
-clear-requires c κs = search needs
-
 loop-holds : tie.Need-loop-holds Inv-loop μ-loop
 loop-holds c =
-    let st = c .before .before .before .before .before .before .before .before .before .before .before in
-    let book = c .before .before .clear .last .0 in
-    (omega arith, refl, refl, held-none (st .args .sequences .now) (st .args .first) book (fits-same (st .args .book .now) book (omega arith) (st .pre .1 .1 .1 .1 .1)), refl)
+    let st = c .before .before .before .before .before .before .before in
+    (omega arith, refl, refl, held-none (st .args .sequences .now) (st .args .first) (st .args .book .now) (st .pre .1 .1 .1 .1 .1), refl)
 
 one-path-requires : tie.Need-one-path-requires Inv-loop μ-loop
 one-path-requires c κs =
     let l = c .before .before .before in
-    let st = l .before .before .before .before .before .before .before .before .before .before .before .before in
+    let st = l .before .before .before .before .before .before .before .before in
     let x = lentOf (st .args .g .now) (st .args .d .now) (st .args .nodes .now) (st .args .children .now) (st .args .sequences .now) (st .args .rate) in
     let first = st .args .first in
     let n = st .args .n in
     let i = l .loop .i in
     let values = l .loop .values in
-    let size = length (l .before .before .before .clear .last .0) in
+    let size = length (st .args .book .now) in
     let lt : i < n = c .before .before .loop-test .taken in
     let room : 10 * knotCount n (st .args .rate) ≤ length values = rw (l .loop .inv .2) (st .pre .1 .1 .1 .1 .0) in (
       st .pre .0,
@@ -71,23 +66,22 @@ returns c =
     let a = c .before in
     let op = a .before .before .before .before .before .before in
     let l = op .before .before .before .before in
-    let st = l .before .before .before .before .before .before .before .before .before .before .before .before in
+    let st = l .before .before .before .before .before .before .before .before in
     let x = lentOf (st .args .g .now) (st .args .d .now) (st .args .nodes .now) (st .args .children .now) (st .args .sequences .now) (st .args .rate) in
     let first = st .args .first in
     let n = st .args .n in
     let i = l .loop .i in
     let values = l .loop .values in
-    let size = length (l .before .before .before .clear .last .0) in
+    let size = length (st .args .book .now) in
     let book = op .one-path .last .1 .1 .1 .1 .1 .1 .1 .1 .0 in
     let after = op .one-path .last .1 .1 .1 .1 .1 .1 .1 .1 .1 .1 .0 in
     let same : length book ≡ size = omega arith in
     let lt : i < n = op .before .before .before .loop-test .taken in
-    let opened : size ≡ length (st .args .book .now) = omega arith in
     let r = a .r .given .0 .0 in
     let went : Went x first i book values after (Stopped r) = subst (λ (e : Entries). Went x first i book values after e) (a .r .given .1) (op .one-path .ensures) in
     sym (path-stops x first size (st .pre .1 .1 .0) n i lt values (numberOf r) (namedNode r) (ap (λ (k : ℕ). onePath x first i k values) (sym same) ∙ went))
     ∙ l .loop .inv .4
-    ∙ all-left x first size n (st .args .values .now) ∙ ap (λ (k : ℕ). entered 0 (recordsFrom x first (restarted 0 k 0) 0 n) (st .args .values .now)) opened
+    ∙ all-left x first size n (st .args .values .now)
 
 enum-known-more : tie.Need-enum-known-more Inv-loop μ-loop
 enum-known-more c = search needs
@@ -103,13 +97,13 @@ loop-again c =
     let m = c .before in
     let op = m .before .before .before .before .before .before in
     let l = op .before .before .before .before in
-    let st = l .before .before .before .before .before .before .before .before .before .before .before .before in
+    let st = l .before .before .before .before .before .before .before .before in
     let x = lentOf (st .args .g .now) (st .args .d .now) (st .args .nodes .now) (st .args .children .now) (st .args .sequences .now) (st .args .rate) in
     let first = st .args .first in
     let n = st .args .n in
     let i = l .loop .i in
     let values = l .loop .values in
-    let size = length (l .before .before .before .clear .last .0) in
+    let size = length (st .args .book .now) in
     let book = op .one-path .last .1 .1 .1 .1 .1 .1 .1 .1 .0 in
     let after = op .one-path .last .1 .1 .1 .1 .1 .1 .1 .1 .1 .1 .0 in
     let same : length book ≡ size = omega arith in
@@ -132,17 +126,16 @@ same-length-4 c = search needs
 returns-2 : tie.Need-returns-2 Inv-loop μ-loop
 returns-2 c =
     let l = c .before in
-    let st = l .before .before .before .before .before .before .before .before .before .before .before .before in
+    let st = l .before .before .before .before .before .before .before .before in
     let x = lentOf (st .args .g .now) (st .args .d .now) (st .args .nodes .now) (st .args .children .now) (st .args .sequences .now) (st .args .rate) in
     let first = st .args .first in
     let n = st .args .n in
     let i = l .loop .i in
     let values = l .loop .values in
-    let size = length (l .before .before .before .clear .last .0) in
-    let opened : size ≡ length (st .args .book .now) = omega arith in
+    let size = length (st .args .book .now) in
     sym (none-left x first size n i (c .loop-test .left) values)
     ∙ l .loop .inv .4
-    ∙ all-left x first size n (st .args .values .now) ∙ ap (λ (k : ℕ). entered 0 (recordsFrom x first (restarted 0 k 0) 0 n) (st .args .values .now)) opened
+    ∙ all-left x first size n (st .args .values .now)
 
 pub run-sequence-spec : {M : Type 1} → statement M
 run-sequence-spec =
@@ -150,7 +143,6 @@ run-sequence-spec =
     (tie.spec
     Inv-loop
     μ-loop
-    clear-requires
     loop-holds
     one-path-requires
     enum-known-r

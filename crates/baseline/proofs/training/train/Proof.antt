@@ -3,8 +3,8 @@
 use mathlib.Core.Path.{_≡_, sym, ap, _∙_}
 use mathlib.Core.Option.{none}
 use Rattle.priors.specs.Refusals.{numberOf, namedNode, checkedNumber}
-use Rattle.baseline.specs.Training.{trainRefusal}
-use Rattle.baseline.specs.Courses.{inputOf, checkedNode}
+use Rattle.baseline.specs.Training.{inputOf, trainRefusal}
+use Rattle.baseline.specs.Courses.{checkedNode}
 use Rattle.baseline.proofs.WorkLaws.{refused-leaves}
 use borrow.Author.Needs.{needs}
 use Rattle.baseline.proofs.training.train.Statement.{statement}

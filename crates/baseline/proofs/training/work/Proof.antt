@@ -11,8 +11,8 @@ use Rattle.priors.specs.Refusals.{numberOf, namedNode}
 use Rattle.book.specs.Calls.{zeros}
 use Rattle.divergence.specs.Numbers.{zero64}
 use Rattle.divergence.specs.Readings.{answered}
-use Rattle.baseline.specs.Training.{stopped, reached, course, knotsOf, started, knotLengths}
-use Rattle.baseline.specs.Courses.{inputOf, allEntered, ended}
+use Rattle.baseline.specs.Training.{inputOf, stopped, reached, course, knotsOf, started, knotLengths}
+use Rattle.baseline.specs.Courses.{allEntered, ended}
 use Rattle.baseline.proofs.SampleLaws.{length-lt}
 use Rattle.baseline.proofs.WorkLaws.{passed, stopped-leaves, done-leaves}
 use borrow.Author.Needs.{needs}
