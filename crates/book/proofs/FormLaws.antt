@@ -1,7 +1,7 @@
 -- The form by its tests: of an entry from its fields, of entries one after the other, of the queue's lengths; and what the form tells an add. Assumes nothing.
 use mathlib.Core.Path.{_≡_, refl, sym, ap, ap₂, _∙_}
 use mathlib.Core.Bool.{Bool, true, false, _&&_, _||_}
-use Prim.Native.Nat.{ℕ, zero, suc, _+_, _-_, _*_, _≤_, _<_, zero-le}
+use Prim.Native.Nat.{ℕ, zero, suc, _+_, _-_, _*_, _^_, _≤_, _<_, zero-le}
 use mathlib.Core.Logic.{⊎-elim}
 use native.Mathlib.Nat.{not-suc-le-zero, le-of-suc-le-suc, eq-or-lt-of-le}
 use native.Mathlib.Numerals.{add-one}
@@ -12,18 +12,17 @@ use lib.ListN.{length, getD, take, drop, drop-of-length-le}
 use lib.Seq.{drop-cons, ext-getD}
 use borrow.Author.Tests.{le-leb, lt-leb, eq-eqb, ne-eqb, leb-true, ltb-true, eqb-true}
 use Rattle.priors.specs.Word.{word}
-use Rattle.priors.specs.Address.{rankAt}
-use Rattle.priors.specs.Rows.{Row, keys, Ascends}
+use Rattle.priors.specs.Rows.{Row, row, keys, Ascends}
 use Rattle.priors.specs.Search.{blank}
-use Rattle.priors.proofs.Ranks.{Bytes}
 use Rattle.book.specs.Limits.{maxCount, maxSteps, placeSize}
-use Rattle.book.specs.Keys.{keyOf, endKey, nodeOf, kindOf, childOf, noChild}
-use Rattle.book.specs.Entries.{keyAt, rowAt, rows}
+use Rattle.book.specs.Keys.{keyOf, endKey, nodeOf, kindOf, childOf, noChild, keyValue}
+use Rattle.book.specs.Entries.{fieldsAt, keyAt, rowAt, rows}
+use Rattle.book.specs.declared.keys.Key.{Key}
 use Rattle.book.specs.declared.trackers.Tracker.{Tracker}
 use Rattle.book.specs.Form.{bookFits, queueFits, stateFits, plain, follows, formedAfter, formed, lengthsFit, filled, inForm}
 use Rattle.book.specs.Changes.{CountsUpTo}
-use Rattle.book.proofs.KeyLaws.{key-parts}
-use Rattle.book.proofs.EntryLaws.{length-rows, getD-rows, row-take, node-at, kind-at, child-at}
+use Rattle.book.proofs.KeyLaws.{key-order, key-node, key-kind, key-child, key-parts}
+use Rattle.book.proofs.EntryLaws.{length-rows, getD-rows, row-take}
 
 pub and-left : (a b : Bool) → a && b ≡ true → a ≡ true
 and-left true b h = refl
@@ -33,7 +32,7 @@ pub and-right : (a b : Bool) → a && b ≡ true → b ≡ true
 and-right true b h = h
 and-right false b h = cc
 
-and-true : (b : Bool) → b && true ≡ b
+pub and-true : (b : Bool) → b && true ≡ b
 and-true true = refl
 and-true false = refl
 
@@ -43,62 +42,71 @@ and-false false = refl
 
 -- ---- an entry, from its fields
 
-module _ (s : List ℕ) (bytes : Bytes s) (a : ℕ) where
-  pub plain-is : plain (rowAt s a) ≡ leb (word s (a + 8)) 1 && (leb (word s (a + 20)) maxCount && (eqb (word s (a + 8)) 1 || eqb (rankAt s (a + 12)) noChild))
-  unfolding plain rowAt
-  plain-is = rw (kind-at s bytes a, child-at s bytes a)
+module _ (k : Key) (hk : k .kind < 2 ^ 32) (hc : k .child < 2 ^ 64) where
+  pub kind-is : kindOf (keyValue k) ≡ k .kind
+  unfolding keyValue
+  kind-is = key-kind (k .node) (k .kind) (k .child) hk hc
 
-  pub follows-is : (b : ℕ) → follows (keyAt s b) (rowAt s a) ≡ ltb (keyAt s b) (keyAt s a) && (eqb (rankAt s b) (rankAt s a) || eqb (word s (a + 8)) 0)
-  unfolding follows rowAt
-  follows-is b = rw (node-at s bytes b, node-at s bytes a, kind-at s bytes a)
+  pub plain-is : (count : ℕ) → plain (row (keyValue k) count) ≡ leb (k .kind) 1 && (leb count maxCount && (eqb (k .kind) 1 || eqb (k .child) noChild))
+  unfolding plain keyValue
+  plain-is count = rw (key-kind (k .node) (k .kind) (k .child) hk hc, key-child (k .node) (k .kind) (k .child) hk hc)
+
+  pub follows-is : (l : Key) → l .kind < 2 ^ 32 → l .child < 2 ^ 64 → follows (keyValue l) (row (keyValue k) 0)
+      ≡ (ltb (l .node) (k .node) || (eqb (l .node) (k .node) && (ltb (l .kind) (k .kind) || (eqb (l .kind) (k .kind) && ltb (l .child) (k .child)))))
+      && (eqb (l .node) (k .node) || eqb (k .kind) 0)
+  unfolding follows keyValue
+  follows-is l lk lc =
+      rw (key-order (l .node) (l .kind) (l .child) (k .node) (k .kind) (k .child) lk lc hk hc, key-node (l .node) (l .kind) (l .child) lk lc, key-node (k .node) (k .kind) (k .child) hk hc, key-kind (k .node) (k .kind) (k .child) hk hc)
+
+-- fields that are read make the row that stands there
+pub row-read : (s : List ℕ) (a : ℕ) (k : Key) (count : ℕ) → k ≡ fieldsAt s a → count ≡ word s (a + 20) → rowAt s a ≡ row (keyValue k) count
+unfolding rowAt keyAt keyValue
+row-read s a k count e f = rw (e, f)
 
 -- ---- entries one after the other
 
-formed-turn : (s : List ℕ) (n k i : ℕ) → i < n
-    → formedAfter k (drop i (rows s n)) ≡ plain (rowAt s (24 * i)) && (follows k (rowAt s (24 * i)) && formedAfter (keyAt s (24 * i)) (drop (i + 1) (rows s n)))
-unfolding formedAfter rowAt
-formed-turn s n k i h =
-    let len : length (rows s n) ≡ n = length-rows s n in
-    ap (formedAfter k) (drop-cons (rows s n) i blank (omega arith)) ∙ rw (getD-rows s n i blank h, add-one i)
-
-module _ (s : List ℕ) (bytes : Bytes s) (n : ℕ) where
-  formed-first : 0 < n → formed (rows s n) ≡ plain (rowAt s 0) && (eqb (word s 8) 0 && formedAfter (keyAt s 0) (drop 1 (rows s n)))
-  unfolding formed rows rowAt
-  formed-first = go n
-    where
-      go : (m : ℕ) → 0 < m → formed (rows s m) ≡ plain (rowAt s 0) && (eqb (word s 8) 0 && formedAfter (keyAt s 0) (drop 1 (rows s m)))
-      go zero h = absurd (not-suc-le-zero h)
-      go (suc m) h = rw (kind-at s bytes 0)
-
+module _ (s : List ℕ) (n : ℕ) where
   pub none : n ≡ 0 → true ≡ formed (rows s n)
   unfolding formed rows
   none e = rw e
 
-  -- before the loop
-  module _ (pos : 0 < n) where
-    pub start-plain : plain (rowAt s 0) ≡ false → false ≡ formed (rows s n)
-    start-plain e = rw (formed-first pos, e)
+  -- before the loop: the first row has the key x and the count c
+  module _ (pos : 0 < n) (x c : ℕ) (is : rowAt s 0 ≡ row x c) where
+    formed-first : formed (rows s n) ≡ plain (row x c) && (eqb (kindOf x) 0 && formedAfter x (drop 1 (rows s n)))
+    unfolding formed rows
+    formed-first = go n pos
+      where
+        go : (m : ℕ) → 0 < m → formed (rows s m) ≡ plain (row x c) && (eqb (kindOf x) 0 && formedAfter x (drop 1 (rows s m)))
+        go zero h = absurd (not-suc-le-zero h)
+        go (suc m) h = rw is
 
-    module _ (p : plain (rowAt s 0) ≡ true) where
-      pub start-ending : (word s 8 ≡ 0 → ⊥) → false ≡ formed (rows s n)
-      start-ending e = rw (formed-first pos, p, ne-eqb (word s 8) 0 e)
+    pub start-plain : plain (row x c) ≡ false → false ≡ formed (rows s n)
+    start-plain e = rw (formed-first, e)
 
-      pub start-on : word s 8 ≡ 0 → formed (rows s n) ≡ formedAfter (keyAt s 0) (drop 1 (rows s n))
-      start-on e = rw (formed-first pos, p, eq-eqb (word s 8) 0 e)
+    pub start-ending : plain (row x c) ≡ true → (kindOf x ≡ 0 → ⊥) → false ≡ formed (rows s n)
+    start-ending p e = rw (formed-first, p, ne-eqb (kindOf x) 0 e)
+
+    pub start-on : plain (row x c) ≡ true → kindOf x ≡ 0 → formed (rows s n) ≡ formedAfter x (drop 1 (rows s n))
+    start-on p e = rw (formed-first, p, eq-eqb (kindOf x) 0 e)
 
   -- in the loop: what is left is as it was after k
   module _ (k i : ℕ) (so-far : formed (rows s n) ≡ formedAfter k (drop i (rows s n))) where
-    module _ (in-book : i < n) where
-      pub turn-plain : plain (rowAt s (24 * i)) ≡ false → false ≡ formed (rows s n)
-      turn-plain e = rw (so-far, formed-turn s n k i in-book, e)
+    -- and its first row has the key x and the count c
+    module _ (in-book : i < n) (x c : ℕ) (is : rowAt s (24 * i) ≡ row x c) where
+      formed-turn : formed (rows s n) ≡ plain (row x c) && (follows k (row x 0) && formedAfter x (drop (i + 1) (rows s n)))
+      unfolding formedAfter follows
+      formed-turn =
+          let len : length (rows s n) ≡ n = length-rows s n in
+          so-far ∙ ap (formedAfter k) (drop-cons (rows s n) i blank (omega arith)) ∙ rw (getD-rows s n i blank in-book, is, add-one i)
 
-      pub turn-follows : plain (rowAt s (24 * i)) ≡ true → follows k (rowAt s (24 * i)) ≡ false → false ≡ formed (rows s n)
-      turn-follows p e = rw (so-far, formed-turn s n k i in-book, p, e)
+      pub turn-plain : plain (row x c) ≡ false → false ≡ formed (rows s n)
+      turn-plain e = rw (formed-turn, e)
 
-      pub turn-on : plain (rowAt s (24 * i)) ≡ true → follows k (rowAt s (24 * i)) ≡ true → formed (rows s n) ≡ formedAfter (keyAt s (24 * (i + 1 - 1))) (drop (i + 1) (rows s n))
-      turn-on p f =
-          let same : i ≡ i + 1 - 1 = omega arith in
-          so-far ∙ formed-turn s n k i in-book ∙ rw (p, f) (ap (λ (j : ℕ). formedAfter (keyAt s (24 * j)) (drop (i + 1) (rows s n))) same)
+      pub turn-follows : plain (row x c) ≡ true → follows k (row x 0) ≡ false → false ≡ formed (rows s n)
+      turn-follows p e = rw (formed-turn, p, e)
+
+      pub turn-on : plain (row x c) ≡ true → follows k (row x 0) ≡ true → formed (rows s n) ≡ formedAfter x (drop (i + 1) (rows s n))
+      turn-on p f = rw (formed-turn, p, f)
 
     pub done : n ≤ i → true ≡ formed (rows s n)
     unfolding formedAfter

@@ -23,7 +23,7 @@ pub enum Found {
 }
 
 // The entry at the place i has a key below the given one.
-pub fn below(book: &[u8], i: usize, key: Key) -> bool
+fn below(book: &[u8], i: usize, key: Key) -> bool
     requires { ⌜ 24 * i + 24 ≤ length (now book) ⌝ }
     ensures { λ r. ⌜ r ≡ ltb (keyAt (now (book .entry)) (24 * i)) (keyValue key) ⌝ }
 {
@@ -47,7 +47,7 @@ pub fn below(book: &[u8], i: usize, key: Key) -> bool
 }
 
 // The entry at the place i has the given key.
-pub fn same(book: &[u8], i: usize, key: Key) -> bool
+fn same(book: &[u8], i: usize, key: Key) -> bool
     requires { ⌜ 24 * i + 24 ≤ length (now book) ⌝ }
     ensures { λ r. ⌜ r ≡ eqb (keyAt (now (book .entry)) (24 * i)) (keyValue key) ⌝ }
 {

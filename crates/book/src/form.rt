@@ -1,13 +1,14 @@
 // The form that each call on a tracker tests, but an opening: sizes of what is lent, the state within limits, used entries in order,
 // and the lengths of filled places. No other byte is read.
 ghost use mathlib.Core.Path.{_≡_};
-ghost use mathlib.Core.Bool.{true};
-ghost use Prim.Native.Nat.{_+_, _-_, _*_, _≤_, _<_, min};
+ghost use Prim.Native.Nat.{_+_, _*_, _≤_, min};
 ghost use lib.ListN.{length};
-ghost use Rattle.book.specs.Entries.{fieldsAt, keyAt, rowAt, rows};
-ghost use Rattle.book.specs.Form.{bookFits, queueFits, plain, follows, formed, lengthsFit, stateFits, inForm, filled};
-use crate::entries::below;
+ghost use Rattle.priors.specs.Rows.{row};
+ghost use Rattle.book.specs.Keys.{keyValue};
+ghost use Rattle.book.specs.Entries.{fieldsAt, rows};
+ghost use Rattle.book.specs.Form.{bookFits, queueFits, plain, follows, formed, lengthsFit, stateFits, inForm};
 use crate::keys::Key;
+use crate::keys::NO_CHILD;
 use crate::limits::ENTRY_SIZE;
 use crate::limits::MAX_ACCEPTED;
 use crate::limits::MAX_COUNT;
@@ -53,24 +54,39 @@ fn state_fits(t: Tracker, book: &[u8]) -> bool
     t.accepted <= MAX_ACCEPTED
 }
 
-// The entry from `at`, by itself: an ending or a child, a count up to 2^30, and zeros for an ending's child address.
-fn plain_at(s: &[u8], at: usize) -> bool
-    requires { ⌜ at + 24 ≤ length (now s) ⌝ }
-    ensures { λ r. ⌜ r ≡ plain (rowAt (now (s .entry)) at) ⌝ }
+// An entry by itself: an ending or a child, a count up to 2^30, and zeros for an ending's child address.
+fn plain(key: Key, count: u32) -> bool
+    ensures { λ r. ⌜ r ≡ plain (row (keyValue key) count) ⌝ }
 {
-    let kind = read_u32(s, at + 8);
-    if 1 < kind {
+    if 1 < key.kind {
         return false;
     }
-    let count = read_u32(s, at + 20);
     if MAX_COUNT < count {
         return false;
     }
-    if kind == 1 {
+    if key.kind == 1 {
         return true;
     }
-    let child = rank_at(s, at + 12);
-    child == 9223372036854775808
+    key.child == NO_CHILD
+}
+
+// An entry with this key can stand after one with the key `last`. Its count plays no part.
+fn follows(last: Key, key: Key) -> bool
+    ensures { λ r. ⌜ r ≡ follows (keyValue last) (row (keyValue key) 0) ⌝ }
+{
+    if last.node == key.node {
+        if last.kind < key.kind {
+            return true;
+        }
+        if key.kind < last.kind {
+            return false;
+        }
+        return last.child < key.child;
+    }
+    if key.node < last.node {
+        return false;
+    }
+    key.kind == 0
 }
 
 // The key of the entry from `at`.
@@ -85,24 +101,7 @@ fn key_of(s: &[u8], at: usize) -> Key
     }
 }
 
-// The entry at the place i can stand after the one before it.
-fn follows_at(book: &[u8], i: usize) -> bool
-    requires { ⌜ 1 ≤ i ⌝ }
-    requires { ⌜ 24 * i + 24 ≤ length (now book) ⌝ }
-    ensures { λ r. ⌜ r ≡ follows (keyAt (now (book .entry)) (24 * (i - 1))) (rowAt (now (book .entry)) (24 * i)) ⌝ }
-{
-    let key = key_of(book, ENTRY_SIZE * i);
-    if !below(book, i - 1, key) {
-        return false;
-    }
-    let node = rank_at(book, ENTRY_SIZE * (i - 1));
-    if node == key.node {
-        return true;
-    }
-    key.kind == 0
-}
-
-// The used entries have the form.
+// The used entries have the form. Each entry is read once.
 pub fn entries_formed(book: &[u8], used: usize) -> bool
     requires { ⌜ 24 * used ≤ length (now book) ⌝ }
     ensures { λ r. ⌜ r ≡ formed (rows (now (book .entry)) used) ⌝ }
@@ -110,21 +109,24 @@ pub fn entries_formed(book: &[u8], used: usize) -> bool
     if used == 0 {
         return true;
     }
-    if !plain_at(book, 0) {
+    let mut last = key_of(book, 0);
+    if !plain(last, read_u32(book, 20)) {
         return false;
     }
-    let first = read_u32(book, 8);
-    if first != 0 {
+    if last.kind != 0 {
         return false;
     }
     let mut i = 1;
     while i < used {
-        if !plain_at(book, ENTRY_SIZE * i) {
+        let at = ENTRY_SIZE * i;
+        let key = key_of(book, at);
+        if !plain(key, read_u32(book, at + 20)) {
             return false;
         }
-        if !follows_at(book, i) {
+        if !follows(last, key) {
             return false;
         }
+        last = key;
         i += 1;
     }
     true

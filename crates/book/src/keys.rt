@@ -9,14 +9,17 @@ pub struct Key {
     pub child: u64,
 }
 
-// The key of a node's ending. Its child address is zeros, whose rank is 2^63.
+// The child of an ending: the rank of the address of two zeros, 2^63.
+pub const NO_CHILD: u64 = 9223372036854775808;
+
+// The key of a node's ending.
 pub fn ending(node: u64) -> Key
     ensures { λ r. ⌜ keyValue r ≡ endKey node ⌝ }
 {
     Key {
         node,
         kind: 0,
-        child: 9223372036854775808,
+        child: NO_CHILD,
     }
 }
 

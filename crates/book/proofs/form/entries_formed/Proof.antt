@@ -1,71 +1,111 @@
--- The loop's invariant: the answer of the whole is that of what is left, after the entry before.
+-- The loop's invariant: the answer of the whole is that of what is left, after the last key.
 -- Assumes nothing.
 use Prim.Native.Nat.{_-_, _*_, _≤_}
 use mathlib.Core.Path.{_≡_, sym, _∙_}
 use borrow.Author.Tests.{not-true, not-false}
 use native.Mathlib.Omega.{arith}
 use lib.ListN.{drop}
-use Rattle.book.specs.Entries.{keyAt, rows}
+use Rattle.priors.specs.Rows.{row}
+use Rattle.book.specs.Keys.{kindOf, keyValue}
+use Rattle.book.specs.Entries.{rowAt, rows}
 use Rattle.book.specs.Form.{formed, formedAfter}
-use Rattle.book.proofs.FormLaws.{none, start-plain, start-ending, start-on, turn-plain, turn-follows, turn-on, done}
+use Rattle.book.proofs.FormLaws.{kind-is, row-read, none, start-plain, start-ending, start-on, turn-plain, turn-follows, turn-on, done}
+use borrow.Author.Needs.{needs}
 use Rattle.book.proofs.form.entries_formed.Statement.{statement}
 use Rattle.book.proofs.form.entries_formed.Tie as tie
 
 abbrev Inv-loop : tie.InvT-loop
-Inv-loop book used first i₀ i = (1 ≤ i) × (i ≤ used) × (formed (rows book used) ≡ formedAfter (keyAt book (24 * (i - 1))) (drop i (rows book used)))
+Inv-loop book used last₀ i₀ last i = (1 ≤ i) × (i ≤ used) × (formed (rows book used) ≡ formedAfter (keyValue last) (drop i (rows book used)))
 
 abbrev μ-loop : tie.MeasureT-loop
-μ-loop book used first i₀ i = used - i
+μ-loop book used last₀ i₀ last i = used - i
+
+-- what is read is the row that stands there: the first, and in a turn
+first : (r : tie.After-read-u32 Inv-loop μ-loop) →
+    let s = r .before .before .before .before .args .book .now in
+    rowAt s 0 ≡ row (keyValue (r .before .key-of .result)) (r .read-u32 .result)
+first r = row-read (r .before .before .before .before .args .book .now) 0 (r .before .key-of .result) (r .read-u32 .result) (r .before .key-of .ensures) (r .read-u32 .ensures)
+
+turn : (r : tie.After-read-u322 Inv-loop μ-loop) →
+    let l = r .before .before .before in
+    let s = l .before .before .before .before .before .before .before .before .before .args .book .now in
+    rowAt s (24 * l .loop .i) ≡ row (keyValue (r .before .key-of2 .result)) (r .read-u322 .result)
+turn r =
+    let l = r .before .before .before in
+    row-read (l .before .before .before .before .before .before .before .before .before .args .book .now) (24 * l .loop .i) (r .before .key-of2 .result) (r .read-u322 .result) (r .before .key-of2 .ensures) (r .read-u322 .ensures)
 
 returns : tie.Need-returns Inv-loop μ-loop
 returns c =
-    let k = c .before in
-    none (k .before .args .book .now) (k .shared-slice-known .given) (k .before .args .used) (c .if1 .taken)
+    let st = c .before .before in
+    none (st .args .book .now) (st .args .used) (c .if1 .taken)
 
-plain-at-requires : tie.Need-plain-at-requires Inv-loop μ-loop
-plain-at-requires c κs = omega arith
-
-returns-2 : tie.Need-returns-2 Inv-loop μ-loop
-returns-2 c =
-    let k = c .before .before .before in
-    start-plain (k .before .args .book .now) (k .shared-slice-known .given) (k .before .args .used) (omega arith) (sym (c .before .plain-at .ensures) ∙ not-true (c .before .plain-at .result) (c .if2 .taken))
+key-of-requires : tie.Need-key-of-requires Inv-loop μ-loop
+key-of-requires c κs = omega arith
 
 read-u32-requires : tie.Need-read-u32-requires Inv-loop μ-loop
 read-u32-requires c κs = omega arith
 
+plain-requires : tie.Need-plain-requires Inv-loop μ-loop
+plain-requires c κs = search needs
+
+returns-2 : tie.Need-returns-2 Inv-loop μ-loop
+returns-2 c =
+    let q = c .before in
+    let r = q .before in
+    let st = r .before .before .before .before in
+    start-plain (st .args .book .now) (st .args .used) (omega arith) (keyValue (r .before .key-of .result)) (r .read-u32 .result) (first r) (sym (q .plain .ensures) ∙ not-true (q .plain .result) (c .if2 .taken))
+
 returns-3 : tie.Need-returns-3 Inv-loop μ-loop
 returns-3 c =
     let q = c .before .before .before in
-    let k = c .before .before .before .before .before in
-    start-ending (k .before .args .book .now) (k .shared-slice-known .given) (k .before .args .used) (omega arith) (sym (q .plain-at .ensures) ∙ not-false (q .plain-at .result) (c .before .before .if2 .left)) (λ e. c .if3 .taken (omega arith))
+    let r = q .before in
+    let st = r .before .before .before .before in
+    let last = r .before .key-of .result in
+    start-ending (st .args .book .now) (st .args .used) (omega arith) (keyValue last) (r .read-u32 .result) (first r) (sym (q .plain .ensures) ∙ not-false (q .plain .result) (c .before .before .if2 .left)) (λ e. c .if3 .taken (sym (kind-is last (omega arith) (omega arith)) ∙ e))
 
 loop-holds : tie.Need-loop-holds Inv-loop μ-loop
 loop-holds c =
     let q = c .before .before .before in
-    let k = c .before .before .before .before .before in
-    (omega arith, omega arith, start-on (k .before .args .book .now) (k .shared-slice-known .given) (k .before .args .used) (omega arith) (sym (q .plain-at .ensures) ∙ not-false (q .plain-at .result) (c .before .before .if2 .left)) (omega arith))
+    let r = q .before in
+    let st = r .before .before .before .before in
+    let last = r .before .key-of .result in
+    let ending : kindOf (keyValue last) ≡ 0 = kind-is last (omega arith) (omega arith) ∙ omega arith in
+    (omega arith, omega arith, start-on (st .args .book .now) (st .args .used) (omega arith) (keyValue last) (r .read-u32 .result) (first r) (sym (q .plain .ensures) ∙ not-false (q .plain .result) (c .before .before .if2 .left)) ending)
 
-mul-plain-at : tie.Need-mul-plain-at Inv-loop μ-loop
-mul-plain-at c = omega arith
+mul-at : tie.Need-mul-at Inv-loop μ-loop
+mul-at c = omega arith
 
-plain-at-requires-2 : tie.Need-plain-at-requires-2 Inv-loop μ-loop
-plain-at-requires-2 c κs = omega arith
+key-of-requires-2 : tie.Need-key-of-requires-2 Inv-loop μ-loop
+key-of-requires-2 c κs = omega arith
+
+add-read-u32 : tie.Need-add-read-u32 Inv-loop μ-loop
+add-read-u32 c = omega arith
+
+read-u32-requires-2 : tie.Need-read-u32-requires-2 Inv-loop μ-loop
+read-u32-requires-2 c κs = omega arith
+
+plain-requires-2 : tie.Need-plain-requires-2 Inv-loop μ-loop
+plain-requires-2 c κs = search needs
 
 returns-4 : tie.Need-returns-4 Inv-loop μ-loop
 returns-4 c =
-    let l = c .before .before .before in
-    let k = l .before .before .before .before .before .before in
-    turn-plain (k .before .args .book .now) (k .shared-slice-known .given) (k .before .args .used) (keyAt (k .before .args .book .now) (24 * (l .loop .i - 1))) (l .loop .i) (l .loop .inv .2) (omega arith) (sym (c .before .plain-at2 .ensures) ∙ not-true (c .before .plain-at2 .result) (c .if4 .taken))
+    let q = c .before in
+    let r = q .before in
+    let l = r .before .before .before in
+    let st = l .before .before .before .before .before .before .before .before .before in
+    turn-plain (st .args .book .now) (st .args .used) (keyValue (l .loop .last)) (l .loop .i) (l .loop .inv .2) (omega arith) (keyValue (r .before .key-of2 .result)) (r .read-u322 .result) (turn r) (sym (q .plain2 .ensures) ∙ not-true (q .plain2 .result) (c .if4 .taken))
 
-follows-at-requires : tie.Need-follows-at-requires Inv-loop μ-loop
-follows-at-requires c κs = omega arith
+follows-requires : tie.Need-follows-requires Inv-loop μ-loop
+follows-requires c κs = search needs
 
 returns-5 : tie.Need-returns-5 Inv-loop μ-loop
 returns-5 c =
-    let l = c .before .before .before .before .before in
-    let k = l .before .before .before .before .before .before in
-    let q = c .before .before .before .plain-at2 in
-    turn-follows (k .before .args .book .now) (k .shared-slice-known .given) (k .before .args .used) (keyAt (k .before .args .book .now) (24 * (l .loop .i - 1))) (l .loop .i) (l .loop .inv .2) (omega arith) (sym (q .ensures) ∙ not-false (q .result) (c .before .before .if4 .left)) (sym (c .before .follows-at .ensures) ∙ not-true (c .before .follows-at .result) (c .if5 .taken))
+    let f = c .before in
+    let q = f .before .before in
+    let r = q .before in
+    let l = r .before .before .before in
+    let st = l .before .before .before .before .before .before .before .before .before in
+    turn-follows (st .args .book .now) (st .args .used) (keyValue (l .loop .last)) (l .loop .i) (l .loop .inv .2) (omega arith) (keyValue (r .before .key-of2 .result)) (r .read-u322 .result) (turn r) (sym (q .plain2 .ensures) ∙ not-false (q .plain2 .result) (f .before .if4 .left)) (sym (f .follows .ensures) ∙ not-true (f .follows .result) (c .if5 .taken))
 
 add-i : tie.Need-add-i Inv-loop μ-loop
 add-i c = omega arith
@@ -75,16 +115,18 @@ loop-less c = omega arith
 
 loop-again : tie.Need-loop-again Inv-loop μ-loop
 loop-again c =
-    let l = c .before .before .before .before .before in
-    let k = l .before .before .before .before .before .before in
-    let q = c .before .before .before .plain-at2 in
-    (omega arith, omega arith, turn-on (k .before .args .book .now) (k .shared-slice-known .given) (k .before .args .used) (keyAt (k .before .args .book .now) (24 * (l .loop .i - 1))) (l .loop .i) (l .loop .inv .2) (omega arith) (sym (q .ensures) ∙ not-false (q .result) (c .before .before .if4 .left)) (sym (c .before .follows-at .ensures) ∙ not-false (c .before .follows-at .result) (c .if5 .left)))
+    let f = c .before in
+    let q = f .before .before in
+    let r = q .before in
+    let l = r .before .before .before in
+    let st = l .before .before .before .before .before .before .before .before .before in
+    (omega arith, omega arith, turn-on (st .args .book .now) (st .args .used) (keyValue (l .loop .last)) (l .loop .i) (l .loop .inv .2) (omega arith) (keyValue (r .before .key-of2 .result)) (r .read-u322 .result) (turn r) (sym (q .plain2 .ensures) ∙ not-false (q .plain2 .result) (f .before .if4 .left)) (sym (f .follows .ensures) ∙ not-false (f .follows .result) (c .if5 .left)))
 
 returns-6 : tie.Need-returns-6 Inv-loop μ-loop
 returns-6 c =
     let l = c .before in
-    let k = l .before .before .before .before .before .before in
-    done (k .before .args .book .now) (k .shared-slice-known .given) (k .before .args .used) (keyAt (k .before .args .book .now) (24 * (l .loop .i - 1))) (l .loop .i) (l .loop .inv .2) (c .loop-test .left)
+    let st = l .before .before .before .before .before .before .before .before .before in
+    done (st .args .book .now) (st .args .used) (keyValue (l .loop .last)) (l .loop .i) (l .loop .inv .2) (c .loop-test .left)
 
 pub entries-formed-spec : {M : Type 1} → statement M
 entries-formed-spec =
@@ -93,15 +135,19 @@ entries-formed-spec =
     Inv-loop
     μ-loop
     returns
-    plain-at-requires
-    returns-2
+    key-of-requires
     read-u32-requires
+    plain-requires
+    returns-2
     returns-3
     loop-holds
-    mul-plain-at
-    plain-at-requires-2
+    mul-at
+    key-of-requires-2
+    add-read-u32
+    read-u32-requires-2
+    plain-requires-2
     returns-4
-    follows-at-requires
+    follows-requires
     returns-5
     add-i
     loop-less
