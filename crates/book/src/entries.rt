@@ -8,8 +8,9 @@ ghost use lib.ListN.{length, take, drop};
 ghost use Rattle.priors.specs.Word.{store};
 ghost use Rattle.priors.specs.Rows.{row, keys, Ascends};
 ghost use Rattle.book.specs.Keys.{keyValue};
-ghost use Rattle.book.specs.Entries.{keyAt, rows, rowBytes, findIn, withEntry, countAt, withCount};
+ghost use Rattle.book.specs.Entries.{fieldsAt, keyAt, rows, rowBytes, findIn, withEntry, countAt, withCount};
 use crate::keys::Key;
+use crate::keys::same_key;
 use crate::limits::ENTRY_SIZE;
 use priors::addresses::rank_at;
 use priors::addresses::write_rank;
@@ -20,6 +21,18 @@ use priors::words::write_u32;
 pub enum Found {
     At(usize),
     Missing(usize),
+}
+
+// The key of the entry from `at`.
+pub fn key_of(s: &[u8], at: usize) -> Key
+    requires { ⌜ at + 24 ≤ length (now s) ⌝ }
+    ensures { λ r. ⌜ r ≡ fieldsAt (now (s .entry)) at ⌝ }
+{
+    Key {
+        node: rank_at(s, at),
+        kind: read_u32(s, at + 8),
+        child: rank_at(s, at + 12),
+    }
 }
 
 // The entry at the place i has a key below the given one.
@@ -51,17 +64,7 @@ fn same(book: &[u8], i: usize, key: Key) -> bool
     requires { ⌜ 24 * i + 24 ≤ length (now book) ⌝ }
     ensures { λ r. ⌜ r ≡ eqb (keyAt (now (book .entry)) (24 * i)) (keyValue key) ⌝ }
 {
-    let at = ENTRY_SIZE * i;
-    let node = rank_at(book, at);
-    if node != key.node {
-        return false;
-    }
-    let kind = read_u32(book, at + 8);
-    if kind != key.kind {
-        return false;
-    }
-    let child = rank_at(book, at + 12);
-    child == key.child
+    same_key(key_of(book, ENTRY_SIZE * i), key)
 }
 
 // Finds a key by halving.

@@ -1,12 +1,13 @@
 // The form that each call on a tracker tests, but an opening: sizes of what is lent, the state within limits, used entries in order,
 // and the lengths of filled places. No other byte is read.
 ghost use mathlib.Core.Path.{_≡_};
-ghost use Prim.Native.Nat.{_+_, _*_, _≤_, min};
+ghost use Prim.Native.Nat.{_*_, _≤_, min};
 ghost use lib.ListN.{length};
 ghost use Rattle.priors.specs.Rows.{row};
 ghost use Rattle.book.specs.Keys.{keyValue};
-ghost use Rattle.book.specs.Entries.{fieldsAt, rows};
+ghost use Rattle.book.specs.Entries.{rows};
 ghost use Rattle.book.specs.Form.{bookFits, queueFits, plain, follows, formed, lengthsFit, stateFits, inForm};
+use crate::entries::key_of;
 use crate::keys::Key;
 use crate::keys::NO_CHILD;
 use crate::limits::ENTRY_SIZE;
@@ -17,7 +18,6 @@ use crate::limits::MAX_STEPS;
 use crate::limits::MAX_WINDOW;
 use crate::limits::PLACE_SIZE;
 use crate::trackers::Tracker;
-use priors::addresses::rank_at;
 use priors::words::read_u32;
 
 // A lent book has 1 to 16,384 whole entries.
@@ -87,18 +87,6 @@ fn follows(last: Key, key: Key) -> bool
         return false;
     }
     key.kind == 0
-}
-
-// The key of the entry from `at`.
-fn key_of(s: &[u8], at: usize) -> Key
-    requires { ⌜ at + 24 ≤ length (now s) ⌝ }
-    ensures { λ r. ⌜ r ≡ fieldsAt (now (s .entry)) at ⌝ }
-{
-    Key {
-        node: rank_at(s, at),
-        kind: read_u32(s, at + 8),
-        child: rank_at(s, at + 12),
-    }
 }
 
 // The used entries have the form. Each entry is read once.

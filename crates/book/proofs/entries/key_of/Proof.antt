@@ -1,8 +1,8 @@
 -- The fields are read one by one.
 -- Assumes nothing.
 use borrow.Author.Needs.{needs}
-use Rattle.book.proofs.form.key_of.Statement.{statement}
-use Rattle.book.proofs.form.key_of.Tie as tie
+use Rattle.book.proofs.entries.key_of.Statement.{statement}
+use Rattle.book.proofs.entries.key_of.Tie as tie
 
 rank-at-requires : tie.Need-rank-at-requires
 rank-at-requires c κs = search needs
