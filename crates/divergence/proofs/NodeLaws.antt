@@ -23,7 +23,7 @@ use Rattle.book.proofs.KeyLaws.{key-node, key-kind, key-child}
 use Rattle.book.proofs.EntryLaws.{row-drop, length-rows, getD-rows}
 use Rattle.book.proofs.ListingForm.{node-end}
 use Rattle.divergence.specs.Nodes.{Node, childRow, spread, listedNodes}
-use Rattle.divergence.specs.Parts.{part, leading, nodeAt, countAt, evidenceAt, nodesFrom}
+use Rattle.divergence.specs.Parts.{part, leading, nodeAt, evidenceAt, nodesFrom}
 
 -- ---- a part of the book
 

@@ -14,11 +14,11 @@ use Rattle.priors.specs.Refusals.{numberOf, namedNode}
 use Rattle.priors.specs.Rows.{Row, keys, Ascends}
 use Rattle.priors.specs.Priors.{Counts, recordCount, records, chain, chainOf, everyChild, nextLinkFits, priorOfNode, findRecord, priorOf, total, priorsRefusal}
 use Rattle.book.specs.declared.trackers.Tracker.{Tracker}
-use Rattle.book.specs.Entries.{rows}
+use Rattle.book.specs.Entries.{rows, countAt}
 use Rattle.book.specs.Form.{inForm}
 use Rattle.book.proofs.CallLaws.{form-used, form-formed}
 use Rattle.divergence.specs.Nodes.{Node, childRow, evidenceOf}
-use Rattle.divergence.specs.Parts.{part, countAt, evidenceAt}
+use Rattle.divergence.specs.Parts.{part, evidenceAt}
 use Rattle.divergence.specs.Probability.{withEvidence, posterior, probVector, withTotal, evidenceProbVector}
 use Rattle.divergence.specs.Merge.{childEntries, mergedFrom, mergedCounts, Mergeable}
 use Rattle.divergence.specs.Listing.{ListedAt, Usable}

@@ -22,7 +22,7 @@ use Rattle.divergence.specs.declared.statistics.Tally.{Tally}
 use Rattle.divergence.specs.declared.statistics.Tallied.the-variants.{On, Stopped}
 use Rattle.divergence.specs.Numbers.{tiny64}
 use Rattle.divergence.specs.Nodes.{Node, childRow, spread, listedNodes}
-use Rattle.divergence.specs.Parts.{part, leading, nodeAt, countAt, evidenceAt, nodesFrom}
+use Rattle.divergence.specs.Parts.{part, leading, nodeAt, evidenceAt, nodesFrom}
 use Rattle.divergence.specs.Divergence.{nodeDivergence}
 use Rattle.divergence.specs.Statistics.{Walk, stopped, walked, visited, walk, noted, counted, statsOver, noStats}
 use Rattle.divergence.specs.Readings.{answered, statsReadingOf}

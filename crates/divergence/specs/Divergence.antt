@@ -2,7 +2,7 @@
 -- operations rounded once each. Three departures from the textbook, as in goko: with a prior singleton of 0 the ending's term is dropped, though the textbook's is
 -- infinite; prior children outside the evidence enter no sum, though the textbook writes terms for them that cancel but for rounding; a result below 0 becomes 0.
 -- Assumes nothing.
-use Prim.Native.Nat.{ℕ, zero, _+_}
+use Prim.Native.Nat.{ℕ, _+_}
 use mathlib.Core.Bool.{Bool, true, false, cond, _||_}
 use mathlib.Core.List.{List, [], _∷_}
 use mathlib.Core.Option.{Option, none, some}
@@ -43,10 +43,11 @@ unfoldable pub childTerms : List Float → List Float → ℕ → List Row → S
 childTerms G D T prior s [] = s
 childTerms G D T prior s (e ∷ es) = childTerms G D T prior (term G D T s (priorCount (look (e .key) prior)) (e .count)) es
 
--- G(T) - mine - G(U) + other + dig, left to right, and 0 where that is below 0
+-- a figure below 0 becomes 0
 unfoldable pub noLess : Float → Float
 noLess x = cond (lt x zero64) zero64 x
 
+-- G(T) - mine - G(U) + other + dig, left to right, and 0 where that is below 0
 unfoldable pub closed : List Float → ℕ → ℕ → Sums → Float
 closed G T U s = noLess (fadd (fadd (fsub (fsub (tableAt G T) (s .mine)) (tableAt G U)) (s .other)) (s .dig))
 

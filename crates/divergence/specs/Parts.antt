@@ -4,13 +4,12 @@ use mathlib.Core.Bool.{cond}
 use mathlib.Core.List.{List, [], _∷_, map}
 use lib.Dec.{eqb}
 use lib.ListN.{drop}
-use Rattle.priors.specs.Word.{word}
 use Rattle.priors.specs.Address.{rankAt}
 use Rattle.priors.specs.Rows.{Row}
 use Rattle.priors.specs.Priors.{Counts}
 use Rattle.book.specs.Limits.{entrySize}
 use Rattle.book.specs.Keys.{kindOf}
-use Rattle.book.specs.Entries.{rows}
+use Rattle.book.specs.Entries.{rows, countAt}
 use Rattle.divergence.specs.Nodes.{Node, childRow, listedNodes}
 
 -- the entries from the place `from` up to the place `to`
@@ -22,12 +21,9 @@ unfoldable pub leading : List Row → ℕ
 leading [] = 0
 leading (r ∷ rs) = cond (eqb (kindOf (r .key)) 0) 0 (suc (leading rs))
 
--- the rank and the count of the entry at the place i
+-- the rank of the entry at the place i
 abbrev pub nodeAt : List ℕ → ℕ → ℕ
 nodeAt book i = rankAt book (entrySize * i)
-
-abbrev pub countAt : List ℕ → ℕ → ℕ
-countAt book i = word book (entrySize * i + 20)
 
 -- the evidence of the node whose ending stands at the place i and whose children end before the place `to`
 abbrev pub evidenceAt : List ℕ → ℕ → ℕ → Counts

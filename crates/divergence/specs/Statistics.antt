@@ -16,7 +16,7 @@ pub record Place : Type 0 where
   pub address : ℕ
   pub value : Float
 
--- a walk over nodes ends at the first refusal, 14 or 15 with its node, or has a place for each node and skips those without a prior
+-- a walk over nodes ends at the first refusal, 14 or 15 with its node, or has a place for each node with a prior and the number of those without
 pub data Walk : Type 0 where
   stopped : (number node : ℕ) → Walk
   walked : (places : List Place) (skipped : ℕ) → Walk

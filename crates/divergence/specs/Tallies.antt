@@ -10,7 +10,7 @@ use Rattle.divergence.specs.declared.statistics.Tally.{Tally}
 use Rattle.divergence.specs.declared.statistics.Tallied.{Tallied}
 use Rattle.divergence.specs.declared.statistics.Tallied.the-variants.{On, Stopped}
 use Rattle.divergence.specs.Statistics.{Walk, stopped, walked, noted, statsOver}
-use Rattle.divergence.specs.Readings.{Reading, refused, nothing, answered, Statistics}
+use Rattle.divergence.specs.Readings.{Reading, refused, answered, Statistics}
 
 -- one more node, with its divergence
 abbrev pub tallyOf : Tally → ℕ → NodeDivergence → Tallied

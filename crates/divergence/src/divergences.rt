@@ -69,7 +69,7 @@ fn prior_count(children: &[u8], first: u32, rank: u64) -> u32
 }
 
 // Some child of the entries from `from` up to `to`, zero count included, is not in the chain that `first` starts.
-pub fn lacks_child(book: &[u8], from: usize, to: usize, children: &[u8], first: u32) -> bool
+fn lacks_child(book: &[u8], from: usize, to: usize, children: &[u8], first: u32) -> bool
     requires { ⌜ from ≤ to ⌝ }
     requires { ⌜ 24 * to ≤ length (now book) ⌝ }
     requires { ⌜ first ≤ recordCount (now children) ⌝ }

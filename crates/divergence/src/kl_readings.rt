@@ -2,7 +2,7 @@
 // form first; nothing lent changes but the outputs, and a refused reading changes nothing.
 ghost use mathlib.Core.Path.{_≡_};
 ghost use mathlib.Core.Bool.{true};
-ghost use Prim.Native.Nat.{_+_, _*_, _<_, _≤_};
+ghost use Prim.Native.Nat.{_*_, _≤_};
 ghost use lib.ListN.{length};
 ghost use Rattle.priors.specs.Address.{rankOf};
 ghost use Rattle.priors.specs.Refusals.{checkedNumber};

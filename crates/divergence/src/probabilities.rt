@@ -42,7 +42,7 @@ pub struct Size {
 }
 
 // The child in the entry at the place i.
-pub fn child_at(book: &[u8], i: usize) -> Child
+fn child_at(book: &[u8], i: usize) -> Child
     requires { ⌜ entrySize * i + 24 ≤ length (now book) ⌝ }
     ensures { λ r. ⌜ row (r .rank) (r .count) ≡ childRow (rowAt (now (book .entry)) (entrySize * i)) ⌝ }
 {

@@ -50,7 +50,7 @@ const LOWEST: f64 = -1.7976931348623157e308;
 const HIGHEST: f64 = 1.7976931348623157e308;
 
 // The statistics of no divergence.
-pub fn no_stats(sequence_len: u32) -> KLDivergenceStats
+fn no_stats(sequence_len: u32) -> KLDivergenceStats
     ensures { λ r. ⌜ r ≡ noStats «sequence_len» ⌝ }
 {
     KLDivergenceStats {
@@ -91,7 +91,7 @@ fn counted(s: KLDivergenceStats, x: f64) -> KLDivergenceStats
 }
 
 // One more divergence, which counts if it is above 1.0e-10.
-pub fn noted(s: KLDivergenceStats, x: f64) -> KLDivergenceStats
+fn noted(s: KLDivergenceStats, x: f64) -> KLDivergenceStats
     requires { ⌜ s .«nz_count» + 1 < 2 ^ 64 ⌝ }
     ensures { λ r. ⌜ r ≡ noted s x ⌝ }
 {
@@ -99,7 +99,7 @@ pub fn noted(s: KLDivergenceStats, x: f64) -> KLDivergenceStats
 }
 
 // One more node, with its divergence.
-pub fn one_more(t: Tally, node: u64, x: NodeDivergence) -> Tallied
+fn one_more(t: Tally, node: u64, x: NodeDivergence) -> Tallied
     requires { ⌜ t .stats .«nz_count» + 1 < 2 ^ 64 ⌝ }
     requires { ⌜ t .skipped + 1 < 2 ^ 32 ⌝ }
     ensures { λ r. ⌜ r ≡ tallyOf t node x ⌝ }

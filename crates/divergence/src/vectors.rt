@@ -4,7 +4,7 @@
 ghost use mathlib.Core.Path.{_≡_};
 ghost use mathlib.Core.Bool.{true};
 ghost use mathlib.Core.Option.{some};
-ghost use Prim.Native.Nat.{_+_, _*_, _/_, _^_, _≤_, _<_, min};
+ghost use Prim.Native.Nat.{_^_, _≤_, _<_, min};
 ghost use lib.ListN.{length};
 ghost use Rattle.priors.specs.Address.{rankOf};
 ghost use Rattle.priors.specs.Limits.{maxChain};

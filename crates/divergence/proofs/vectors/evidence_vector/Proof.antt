@@ -5,10 +5,10 @@ use native.Mathlib.Omega.{arith}
 use mathlib.Core.List.{[]}
 use mathlib.Core.Option.{none, some}
 use Rattle.priors.specs.Priors.{total}
-use Rattle.book.specs.Entries.{rows}
+use Rattle.book.specs.Entries.{rows, countAt}
 use Rattle.divergence.specs.declared.evidence.Listed.{Listed}
 use Rattle.divergence.specs.Nodes.{listedNodes, evidenceOf}
-use Rattle.divergence.specs.Parts.{countAt, evidenceAt}
+use Rattle.divergence.specs.Parts.{evidenceAt}
 use Rattle.divergence.specs.Probability.{evidenceProbVector}
 use Rattle.divergence.specs.Merge.{mergedCounts}
 use Rattle.divergence.specs.Listing.{ListedAt, IsListed}

@@ -4,10 +4,9 @@ use Prim.Native.Nat.{_+_}
 use native.Mathlib.Omega.{arith}
 use mathlib.Core.Option.{none}
 use Rattle.priors.specs.Priors.{priorOfNode}
-use Rattle.book.specs.Entries.{rows}
+use Rattle.book.specs.Entries.{rows, countAt}
 use Rattle.divergence.specs.declared.evidence.Listed.{Listed}
 use Rattle.divergence.specs.Nodes.{listedNodes, evidenceOf}
-use Rattle.divergence.specs.Parts.{countAt}
 use Rattle.divergence.specs.Probability.{posterior}
 use Rattle.divergence.specs.Merge.{mergedCounts}
 use Rattle.divergence.specs.Listing.{ListedAt, IsListed}
