@@ -30,12 +30,12 @@ use Rattle.divergence.specs.declared.fillings.Filling.{Filling}
 use Rattle.divergence.specs.Nodes.{Node, listedNodes, spread}
 use Rattle.divergence.specs.Parts.{part, nodeAt, evidenceAt, nodesFrom}
 use Rattle.divergence.specs.Divergence.{lacksChild, divergence, nodeDivergence}
-use Rattle.divergence.specs.Fits.{fitOf, fitDivergence}
+use Rattle.divergence.specs.Fits.{fitOf}
 use Rattle.divergence.specs.Statistics.{Place, Walk, stopped, walked, visited, walk}
 use Rattle.divergence.specs.Readings.{Reading, refused, answered, Divergences, fitting, hasPrior, withPrior, walkReading, filledAddresses, filledFigures}
-use Rattle.divergence.specs.Fillings.{fitStop, stopOf, thenStop, placesOf, skippedOf, ranksOf, valuesOf, needed, fillingOf, putAddress, putFigure, allListed}
+use Rattle.divergence.specs.Fillings.{fitStop, stopOf, placesOf, skippedOf, ranksOf, valuesOf, needed, fillingOf, putAddress, putFigure, allListed}
 use Rattle.divergence.proofs.NodeLaws.{part-none}
-use Rattle.divergence.proofs.FitLaws.{fit-divergence}
+use Rattle.divergence.proofs.FitLaws.{fitDivergence, fit-divergence}
 use Rattle.divergence.proofs.WalkLaws.{Next, divergenceAt, walkFrom, walk-next, walk-end}
 use Rattle.divergence.proofs.OutputLaws.{filledFrom, addresses-start, addresses-on, addresses-end, figures-start, figures-on, figures-end}
 
@@ -66,6 +66,11 @@ module _ (nodes children book : List ℕ) where
   priors-end i used h = ap (λ (rs : List Row). withPrior nodes children (listedNodes rs)) (part-none book i used h)
 
 -- ---- the first refusal
+
+-- one node's tests, then those of the nodes after it
+abbrev pub thenStop : Checked → Checked → Checked
+thenStop Passed rest = rest
+thenStop (Refused r) rest = Refused r
 
 stop-fit : (G D : List Float) (children : List ℕ) (e : Counts) (node : ℕ) (f : NodeFit) (rest : Walk) → stopOf (visited node (fitDivergence G D children e f) rest) ≡ thenStop (fitStop node f) (stopOf rest)
 stop-fit G D children e node (Fits n t u) (stopped m a) = refl

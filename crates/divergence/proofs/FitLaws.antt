@@ -20,7 +20,7 @@ use Rattle.divergence.specs.declared.divergences.NodeDivergence.the-vari
 use Rattle.divergence.specs.declared.divergences.NodeFit.{NodeFit}
 use Rattle.divergence.specs.declared.divergences.NodeFit.the-variants.{Fits, NoRecord, LacksChild, PastEnd}
 use Rattle.divergence.specs.Divergence.{lacksChild, divergence, nodeDivergence}
-use Rattle.divergence.specs.Fits.{fitOf, fitDivergence}
+use Rattle.divergence.specs.Fits.{fitOf}
 
 module _ (children : List ℕ) (size : ℕ) (n : Record) (e : Counts) where
   pub fit-lacks : lacksChild (priorOfNode children n .children) (e .children) ≡ true → fitOf children size (some n) e ≡ LacksChild
@@ -40,7 +40,13 @@ pub fit-none : (children : List ℕ) (size : ℕ) (e : Counts) → fitOf childre
 unfolding fitOf
 fit-none children size e = refl
 
--- the divergence goes by the tests
+-- the divergence of a node by its tests
+abbrev pub fitDivergence : List Float → List Float → List ℕ → Counts → NodeFit → NodeDivergence
+fitDivergence G D children e (Fits n t u) = Value (divergence G D (priorOfNode children n) e)
+fitDivergence G D children e NoRecord = NoPrior
+fitDivergence G D children e LacksChild = MissingChild
+fitDivergence G D children e PastEnd = PastTable
+
 pub fit-divergence : (G D : List Float) (children : List ℕ) (o : Option Record) (e : Counts)
     → nodeDivergence G D (Option·map (priorOfNode children) o) e ≡ fitDivergence G D children e (fitOf children (length G) o e)
 unfolding nodeDivergence fitOf

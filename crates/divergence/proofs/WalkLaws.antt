@@ -5,12 +5,15 @@ use native.Mathlib.Nat.{add-zero, zero-add, add-assoc}
 use native.Mathlib.Omega.{arith}
 use mathlib.Core.Bool.{Bool, true, false, cond}
 use mathlib.Core.List.{List, [], _∷_, map}
+use mathlib.Core.Option.{some}
 use lib.Dec.{eqb}
 use lib.ListN.{length, drop}
 use lib.Seq.{drop-drop}
 use lib.Ieee.{Float, lt}
 use borrow.Author.Tests.{eqb-true, eq-eqb}
+use Rattle.priors.specs.Address.{addressOf}
 use Rattle.priors.specs.Rows.{Row}
+use Rattle.priors.specs.Refusals.{numberOf, namedNode}
 use Rattle.priors.specs.Priors.{Counts, priorOf}
 use Rattle.priors.proofs.Ranks.{Bytes}
 use Rattle.book.specs.Keys.{nodeOf, kindOf}
@@ -19,14 +22,15 @@ use Rattle.book.proofs.EntryLaws.{length-rows}
 use Rattle.divergence.specs.declared.divergences.NodeDivergence.{NodeDivergence}
 use Rattle.divergence.specs.declared.divergences.NodeDivergence.the-variants.{Value, NoPrior, MissingChild, PastTable}
 use Rattle.divergence.specs.declared.statistics.Tally.{Tally}
+use Rattle.divergence.specs.declared.statistics.Tallied.{Tallied}
 use Rattle.divergence.specs.declared.statistics.Tallied.the-variants.{On, Stopped}
 use Rattle.divergence.specs.Numbers.{tiny64}
 use Rattle.divergence.specs.Nodes.{Node, childRow, spread, listedNodes}
 use Rattle.divergence.specs.Parts.{part, leading, nodeAt, evidenceAt, nodesFrom}
 use Rattle.divergence.specs.Divergence.{nodeDivergence}
 use Rattle.divergence.specs.Statistics.{Walk, stopped, walked, visited, walk, noted, counted, statsOver, noStats}
-use Rattle.divergence.specs.Readings.{answered, statsReadingOf}
-use Rattle.divergence.specs.Tallies.{tallyOf, tallyReading, talliedReading}
+use Rattle.divergence.specs.Readings.{Reading, refused, answered, Statistics, statsReadingOf}
+use Rattle.divergence.specs.Tallies.{tallyOf}
 use Rattle.divergence.proofs.NodeLaws.{part-cons, part-none, leading-le, node-here, count-here}
 
 -- ---- rows as children and nodes
@@ -172,6 +176,16 @@ nodes-cons book bytes i used l h =
     ap listedNodes here ∙ nodes-ending r rest ending ∙ ap₂ (λ (n : Node) (ns : List Node). n ∷ ns) node (end-nodes book (i + 1) used (omega arith))
 
 -- ---- the statistics, node by node
+
+-- the reading that a tally and the walk over the nodes still to come give
+abbrev pub tallyReading : Tally → Walk → Reading Statistics
+tallyReading t (stopped n node) = refused n (some (addressOf node))
+tallyReading t (walked ps k) = answered (record { stats = statsOver (t .stats) ps; skipped = t .skipped + k })
+
+-- and after one more node
+abbrev pub talliedReading : Tallied → Walk → Reading Statistics
+talliedReading (On t) rest = tallyReading t rest
+talliedReading (Stopped r) rest = refused (numberOf r) (namedNode r)
 
 -- a node goes into the tally, and the nodes after it follow
 pub tally-on : (t : Tally) (node : ℕ) (x : NodeDivergence) (rest : Walk) → tallyReading t (visited node x rest) ≡ talliedReading (tallyOf t node x) rest

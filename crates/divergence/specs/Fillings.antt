@@ -33,11 +33,6 @@ abbrev pub stopOf : Walk → Checked
 stopOf (stopped n node) = Refused (cond (eqb n 14) (ChildMissing (addressOf node)) (TablePast (addressOf node)))
 stopOf (walked ps k) = Passed
 
--- one node's tests, then those of the nodes after it
-abbrev pub thenStop : Checked → Checked → Checked
-thenStop Passed rest = rest
-thenStop (Refused r) rest = Refused r
-
 -- ---- what a walk fills and skips
 
 abbrev pub placesOf : Walk → List Place

@@ -4,14 +4,11 @@ use mathlib.Core.Bool.{cond}
 use mathlib.Core.List.{List}
 use mathlib.Core.Option.{Option, none, some}
 use lib.Dec.{leb}
-use lib.Ieee.{Float}
 use Rattle.priors.specs.declared.records.Record.{Record}
 use Rattle.priors.specs.Priors.{Counts, total, priorOfNode}
-use Rattle.divergence.specs.declared.divergences.NodeDivergence.{NodeDivergence}
-use Rattle.divergence.specs.declared.divergences.NodeDivergence.the-variants.{Value, NoPrior, MissingChild, PastTable}
 use Rattle.divergence.specs.declared.divergences.NodeFit.{NodeFit}
 use Rattle.divergence.specs.declared.divergences.NodeFit.the-variants.{Fits, NoRecord, LacksChild, PastEnd}
-use Rattle.divergence.specs.Divergence.{divergence, lacksChild}
+use Rattle.divergence.specs.Divergence.{lacksChild}
 
 -- a node's record, its evidence and the tables' length: a node that fits has its prior total and its total
 unfoldable pub fitOf : List ℕ → ℕ → Option Record → Counts → NodeFit
@@ -21,10 +18,3 @@ fitOf children size (some n) e =
     cond (lacksChild (p .children) (e .children)) LacksChild
     (cond (leb size (total p + total e)) PastEnd
     (Fits n (total p) (total p + total e)))
-
--- the divergence of a node by that
-abbrev pub fitDivergence : List Float → List Float → List ℕ → Counts → NodeFit → NodeDivergence
-fitDivergence G D children e (Fits n t u) = Value (divergence G D (priorOfNode children n) e)
-fitDivergence G D children e NoRecord = NoPrior
-fitDivergence G D children e LacksChild = MissingChild
-fitDivergence G D children e PastEnd = PastTable

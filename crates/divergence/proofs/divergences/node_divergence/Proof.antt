@@ -7,8 +7,7 @@ use Rattle.priors.specs.Priors.{records, findRecord, priorOf}
 use Rattle.priors.proofs.PriorLaws.{accepted, found-fits}
 use Rattle.divergence.specs.declared.divergences.NodeDivergence.the-variants.{Value}
 use Rattle.divergence.specs.Parts.{nodeAt, evidenceAt}
-use Rattle.divergence.specs.Fits.{fitDivergence}
-use Rattle.divergence.proofs.FitLaws.{fit-divergence, fitting, tables-alike}
+use Rattle.divergence.proofs.FitLaws.{fitDivergence, fit-divergence, fitting, tables-alike}
 use borrow.Author.Needs.{needs}
 use Rattle.divergence.proofs.divergences.node_divergence.Statement.{statement}
 use Rattle.divergence.proofs.divergences.node_divergence.Tie as tie

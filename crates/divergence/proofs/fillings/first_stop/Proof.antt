@@ -13,9 +13,9 @@ use Rattle.divergence.specs.Nodes.{Node}
 use Rattle.divergence.specs.Parts.{part, leading, nodeAt, evidenceAt}
 use Rattle.divergence.specs.Fits.{fitOf}
 use Rattle.divergence.specs.Statistics.{walk}
-use Rattle.divergence.specs.Fillings.{fitStop, stopOf, thenStop}
+use Rattle.divergence.specs.Fillings.{fitStop, stopOf}
 use Rattle.divergence.proofs.WalkLaws.{first, next, walkFrom}
-use Rattle.divergence.proofs.FillLaws.{stop-next, stop-end}
+use Rattle.divergence.proofs.FillLaws.{thenStop, stop-next, stop-end}
 use Rattle.divergence.proofs.fillings.first_stop.Statement.{statement}
 use Rattle.divergence.proofs.fillings.first_stop.Tie as tie
 

@@ -11,8 +11,8 @@ use Rattle.divergence.specs.Nodes.{Node}
 use Rattle.divergence.specs.Parts.{part, leading, nodeAt}
 use Rattle.divergence.specs.Statistics.{walk}
 use Rattle.divergence.specs.Readings.{statsReadingOf}
-use Rattle.divergence.specs.Tallies.{tallyOf, tallyReading, talliedReading}
-use Rattle.divergence.proofs.WalkLaws.{first, next, divergenceAt, walkFrom, walk-end, tally-next, tally-start, tally-end, tally-grows}
+use Rattle.divergence.specs.Tallies.{tallyOf}
+use Rattle.divergence.proofs.WalkLaws.{first, next, divergenceAt, walkFrom, walk-end, tallyReading, talliedReading, tally-next, tally-start, tally-end, tally-grows}
 use Rattle.divergence.proofs.statistics.stats_of.Statement.{statement}
 use Rattle.divergence.proofs.statistics.stats_of.Tie as tie
 
