@@ -32,8 +32,8 @@ use Rattle.divergence.specs.Parts.{part, nodeAt, evidenceAt, nodesFrom}
 use Rattle.divergence.specs.Divergence.{lacksChild, divergence, nodeDivergence}
 use Rattle.divergence.specs.Fits.{fitOf}
 use Rattle.divergence.specs.Statistics.{Place, Walk, stopped, walked, visited, walk}
-use Rattle.divergence.specs.Readings.{Reading, refused, answered, Divergences, fitting, hasPrior, withPrior, walkReading, filledAddresses, filledFigures}
-use Rattle.divergence.specs.Fillings.{fitStop, stopOf, placesOf, skippedOf, ranksOf, valuesOf, needed, fillingOf, putAddress, putFigure, allListed}
+use Rattle.divergence.specs.Readings.{Reading, refused, answered, Divergences, fitting, hasPrior, withPrior, walkReading, allListed, ranksOf, valuesOf, filledAddresses, filledFigures}
+use Rattle.divergence.specs.Fillings.{fitStop, stopOf, placesOf, skippedOf, needed, fillingOf, putAddress, putFigure}
 use Rattle.divergence.proofs.NodeLaws.{part-none}
 use Rattle.divergence.proofs.FitLaws.{fitDivergence, fit-divergence}
 use Rattle.divergence.proofs.WalkLaws.{Next, divergenceAt, walkFrom, walk-next, walk-end}

@@ -1,7 +1,7 @@
 -- `all_node_kl`, node by node: whether a walk is stopped, and what each node puts into the output. Assumes nothing.
 use Prim.Native.Nat.{ℕ, _+_, _*_}
 use mathlib.Core.Bool.{cond}
-use mathlib.Core.List.{List, [], map}
+use mathlib.Core.List.{List, []}
 use lib.Dec.{eqb}
 use lib.ListN.{set}
 use lib.Ieee.{Float}
@@ -15,9 +15,7 @@ use Rattle.divergence.specs.declared.divergences.NodeDivergence.the-vari
 use Rattle.divergence.specs.declared.divergences.NodeFit.{NodeFit}
 use Rattle.divergence.specs.declared.divergences.NodeFit.the-variants.{Fits, NoRecord, LacksChild, PastEnd}
 use Rattle.divergence.specs.declared.fillings.Filling.{Filling}
-use Rattle.divergence.specs.Nodes.{Node}
-use Rattle.divergence.specs.Statistics.{Place, Walk, stopped, walked, walk}
-use Rattle.divergence.specs.Readings.{Reading, Divergences, fitting, withPrior, walkReading}
+use Rattle.divergence.specs.Statistics.{Place, Walk, stopped, walked}
 
 -- ---- whether a walk is stopped
 
@@ -42,12 +40,6 @@ placesOf (walked ps k) = ps
 abbrev pub skippedOf : Walk → ℕ
 skippedOf (stopped n node) = 0
 skippedOf (walked ps k) = k
-
-abbrev pub ranksOf : List Place → List ℕ
-ranksOf ps = map (λ (p : Place). p .address) ps
-
-abbrev pub valuesOf : List Place → List Float
-valuesOf ps = map (λ (p : Place). p .value) ps
 
 -- ---- one node: how many places it takes, and what it puts there
 
@@ -74,8 +66,3 @@ putFigure figures place (Value x) = set figures place x
 putFigure figures place NoPrior = figures
 putFigure figures place MissingChild = figures
 putFigure figures place PastTable = figures
-
--- ---- the reading, past the checks before it
-
-abbrev pub allListed : List Float → List Float → List ℕ → List ℕ → List Node → ℕ → Reading Divergences
-allListed G D nodes children ns have = fitting (withPrior nodes children ns) have (walkReading (walk G D nodes children ns))

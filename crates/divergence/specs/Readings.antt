@@ -124,22 +124,31 @@ abbrev pub walkReading : Walk → Reading Divergences
 walkReading (stopped n node) = refused n (some (addressOf node))
 walkReading (walked ps k) = answered (record { places = ps; skipped = k })
 
+-- the reading past the checks before it
+abbrev pub allListed : List Float → List Float → List ℕ → List ℕ → List Node → ℕ → Reading Divergences
+allListed G D nodes children ns have = fitting (withPrior nodes children ns) have (walkReading (walk G D nodes children ns))
+
 unfoldable pub allReading : ℕ → List Float → List Float → List ℕ → List ℕ → List Node → ℕ → Reading Divergences
 allReading form G D nodes children ns have =
-    unless (tablesRefusal G D)
-    (unless (priorsRefusal nodes children)
-    (unless form (fitting (withPrior nodes children ns) have (walkReading (walk G D nodes children ns)))))
+    unless (tablesRefusal G D) (unless (priorsRefusal nodes children) (unless form (allListed G D nodes children ns have)))
+
+-- the nodes of places, and their divergences
+abbrev pub ranksOf : List Place → List ℕ
+ranksOf ps = map (λ (p : Place). p .address) ps
+
+abbrev pub valuesOf : List Place → List Float
+valuesOf ps = map (λ (p : Place). p .value) ps
 
 -- the nodes fill the output, ascending
 abbrev pub allAddresses : Reading Divergences → List ℕ → List ℕ
 allAddresses (refused n node) addresses = addresses
 allAddresses nothing addresses = addresses
-allAddresses (answered a) addresses = filledAddresses (map (λ (p : Place). p .address) (a .places)) addresses
+allAddresses (answered a) addresses = filledAddresses (ranksOf (a .places)) addresses
 
 abbrev pub allFigures : Reading Divergences → List Float → List Float
 allFigures (refused n node) figures = figures
 allFigures nothing figures = figures
-allFigures (answered a) figures = filledFigures (map (λ (p : Place). p .value) (a .places)) figures
+allFigures (answered a) figures = filledFigures (valuesOf (a .places)) figures
 
 -- ---- `kl_div_stats`
 

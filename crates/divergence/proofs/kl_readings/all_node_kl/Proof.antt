@@ -5,9 +5,8 @@ use mathlib.Core.List.{List}
 use Rattle.priors.specs.Rows.{Row}
 use Rattle.priors.specs.Refusals.{checkedNumber}
 use Rattle.divergence.specs.Nodes.{listedNodes}
-use Rattle.divergence.specs.Readings.{Reading, Divergences, nodesOf, room, allReading, allAddresses, allFigures}
+use Rattle.divergence.specs.Readings.{Reading, Divergences, nodesOf, room, allListed, allReading, allAddresses, allFigures}
 use Rattle.divergence.specs.Answers.{allResult}
-use Rattle.divergence.specs.Fillings.{allListed}
 use Rattle.divergence.proofs.WalkLaws.{part-all}
 use Rattle.divergence.proofs.CheckLaws.{refused-by, passed-by, tables-pass, priors-pass, used-fits, used-le}
 use borrow.Author.Needs.{needs}
