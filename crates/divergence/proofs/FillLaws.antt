@@ -1,8 +1,8 @@
 -- The passes that fill an output with all listed nodes: how the count of nodes with a prior, the first refusal and the filling go on from one node to the next.
 -- Assumes nothing.
 use mathlib.Core.Path.{_≡_, refl, sym, ap, ap₂, _∙_}
-use Prim.Native.Nat.{ℕ, zero, suc, _+_, _-_, _*_, _≤_, _<_, min}
-use native.Mathlib.Nat.{add-zero, zero-add, min-le-left, min-le-right}
+use Prim.Native.Nat.{ℕ, zero, suc, _+_, _-_, _*_, _≤_, _<_}
+use native.Mathlib.Nat.{add-zero, zero-add}
 use native.Mathlib.Omega.{arith}
 use mathlib.Core.Bool.{Bool, true, false, cond}
 use mathlib.Core.List.{List, [], _∷_, map, flatMap}
@@ -284,10 +284,3 @@ module _ (G D : List Float) (nodes children : List ℕ) where
           go : (w : Walk) → stopOf w ≡ Passed → walkReading w ≡ answered (record { places = placesOf w; skipped = skippedOf w })
           go (stopped n a) h = let z : _≡_ {A = ℕ} 0 1 = cc in absurd (omega arith)
           go (walked ps k) h = refl
-
--- the slice with fewer whole places decides
-pub short-addresses : (a b n : ℕ) → a < n → min a b < n
-short-addresses a b n h = omega (arith, min-le-left a b)
-
-pub short-figures : (a b n : ℕ) → b < n → min a b < n
-short-figures a b n h = omega (arith, min-le-right a b)

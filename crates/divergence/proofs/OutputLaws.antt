@@ -1,7 +1,7 @@
--- Filling an output place by place: after each write, what is left to be written at the next place gives the same whole. Assumes nothing.
+-- The room in an output, and its filling place by place: after each write, what is left to be written at the next place gives the same whole. Assumes nothing.
 use mathlib.Core.Path.{_≡_, refl, ap, _∙_}
-use Prim.Native.Nat.{ℕ, suc, _+_, _*_, _≤_}
-use native.Mathlib.Nat.{zero-add, add-zero, add-assoc}
+use Prim.Native.Nat.{ℕ, suc, _+_, _*_, _≤_, _<_, min}
+use native.Mathlib.Nat.{zero-add, add-zero, add-assoc, min-le-left, min-le-right}
 use native.Mathlib.Omega.{arith}
 use mathlib.Core.List.{List, [], _∷_, _++_, flatMap, append-assoc}
 use lib.ListN.{length, take, drop, set, length-append, take-append-drop}
@@ -11,6 +11,15 @@ use Rattle.priors.specs.Word.{store}
 use Rattle.priors.specs.Address.{addressBytes}
 use Rattle.priors.proofs.Fields.{store-store}
 use Rattle.divergence.specs.Readings.{filledAddresses, filledFigures}
+
+-- ---- 13
+
+-- the slice with fewer whole places decides
+pub short-addresses : (a b n : ℕ) → a < n → min a b < n
+short-addresses a b n h = omega (arith, min-le-left a b)
+
+pub short-figures : (a b n : ℕ) → b < n → min a b < n
+short-figures a b n h = omega (arith, min-le-right a b)
 
 -- ---- addresses
 

@@ -4,7 +4,7 @@
 ghost use mathlib.Core.Path.{_≡_};
 ghost use mathlib.Core.Bool.{true};
 ghost use mathlib.Core.Option.{some};
-ghost use Prim.Native.Nat.{_^_, _≤_, _<_, min};
+ghost use Prim.Native.Nat.{_^_, _≤_, _<_};
 ghost use lib.ListN.{length};
 ghost use Rattle.priors.specs.Address.{rankOf};
 ghost use Rattle.priors.specs.Limits.{maxChain};
@@ -36,13 +36,6 @@ use priors::refusals::Checked;
 use priors::refusals::Refusal;
 use priors::words::read_u32;
 
-// The lesser of two numbers.
-fn lesser(a: usize, b: usize) -> usize
-    ensures { λ r. ⌜ r ≡ min a b ⌝ }
-{
-    if a < b { a } else { b }
-}
-
 // The probabilities of the ending and of the children that a merge has: 13, or the output is filled.
 fn vector(
     children: &[u8],
@@ -61,7 +54,10 @@ fn vector(
     ensures { λ r. ⌜ Vectored (vectorReading (room (now (addresses .entry)) (now (figures .entry))) (some (mergedCounts ending (now (children .entry)) first (now (book .entry)) from end))) r (now (addresses .entry)) (now (addresses .exit)) (now (figures .entry)) (now (figures .exit)) ⌝ }
 {
     let size = merged_size(children, first, book, from, end);
-    if lesser(addresses.len() / 8, figures.len()) < size.places {
+    if addresses.len() / 8 < size.places {
+        return ProbVector::VectorRefused(Refusal::OutputShort);
+    }
+    if figures.len() < size.places {
         return ProbVector::VectorRefused(Refusal::OutputShort);
     }
     let whole = ending + size.sum;

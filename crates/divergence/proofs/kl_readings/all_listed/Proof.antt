@@ -11,7 +11,8 @@ use Rattle.divergence.specs.Statistics.{walk}
 use Rattle.divergence.specs.Readings.{Reading, answered, Divergences, withPrior, room, allAddresses, allFigures}
 use Rattle.divergence.specs.Answers.{AllResult, allResult}
 use Rattle.divergence.specs.Fillings.{stopOf, placesOf}
-use Rattle.divergence.proofs.FillLaws.{all-short, all-stopped, all-filled, places-number, short-addresses, short-figures}
+use Rattle.divergence.proofs.FillLaws.{all-short, all-stopped, all-filled, places-number}
+use Rattle.divergence.proofs.OutputLaws.{short-addresses, short-figures}
 use borrow.Author.Needs.{needs}
 use Rattle.divergence.proofs.kl_readings.all_listed.Statement.{statement}
 use Rattle.divergence.proofs.kl_readings.all_listed.Tie as tie
