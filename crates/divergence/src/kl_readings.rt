@@ -12,7 +12,8 @@ ghost use Rattle.book.specs.Limits.{maxEntries};
 ghost use Rattle.book.specs.Entries.{rows};
 ghost use Rattle.book.specs.Form.{formed};
 ghost use Rattle.divergence.specs.Nodes.{listedNodes, evidenceOf};
-ghost use Rattle.divergence.specs.Readings.{formRefusal, nodesOf, sequenceLen, divergenceReading, ofListed, klReading, room, allListed, allReading, allAddresses, allFigures, statsReading};
+ghost use Rattle.divergence.specs.Readings.{room, divergenceReading, ofListed, allListed, allAddresses, allFigures};
+ghost use Rattle.divergence.specs.Asked.{klAsked, allAsked, statsAsked};
 ghost use Rattle.divergence.specs.Answers.{klAnswer, allAnswer, allResult, statsAnswer};
 ghost use Rattle.divergence.specs.Parts.{nodesFrom};
 ghost use Rattle.divergence.specs.Checks.{checksRefusal};
@@ -109,7 +110,7 @@ pub fn posterior_kl_divergence(
     scale: i32,
     point: u32,
 ) -> NodeKl
-    ensures { λ r. ⌜ klAnswer r ≡ klReading (formRefusal t (now (book .entry)) (now (queue .entry))) (now (g .entry)) (now (d .entry)) (now (nodes .entry)) (now (children .entry)) (nodesOf t (now (book .entry))) (rankOf scale point) ⌝ }
+    ensures { λ r. ⌜ klAnswer r ≡ klAsked t (now (book .entry)) (now (queue .entry)) (now (nodes .entry)) (now (children .entry)) (now (g .entry)) (now (d .entry)) (rankOf scale point) ⌝ }
 {
     match tested(t, book, queue, nodes, children, g, d) {
         Checked::Refused(r) => NodeKl::KlRefused(r),
@@ -172,9 +173,9 @@ pub fn all_node_kl(
     addresses: &mut [u8],
     figures: &mut [f64],
 ) -> AllNodeKl
-    ensures { λ r. ⌜ allAnswer r ≡ allResult (allReading (formRefusal t (now (book .entry)) (now (queue .entry))) (now (g .entry)) (now (d .entry)) (now (nodes .entry)) (now (children .entry)) (nodesOf t (now (book .entry))) (room (now (addresses .entry)) (now (figures .entry)))) ⌝ }
-    ensures { λ r. ⌜ now (addresses .exit) ≡ allAddresses (allReading (formRefusal t (now (book .entry)) (now (queue .entry))) (now (g .entry)) (now (d .entry)) (now (nodes .entry)) (now (children .entry)) (nodesOf t (now (book .entry))) (room (now (addresses .entry)) (now (figures .entry)))) (now (addresses .entry)) ⌝ }
-    ensures { λ r. ⌜ now (figures .exit) ≡ allFigures (allReading (formRefusal t (now (book .entry)) (now (queue .entry))) (now (g .entry)) (now (d .entry)) (now (nodes .entry)) (now (children .entry)) (nodesOf t (now (book .entry))) (room (now (addresses .entry)) (now (figures .entry)))) (now (figures .entry)) ⌝ }
+    ensures { λ r. ⌜ allAnswer r ≡ allResult (allAsked t (now (book .entry)) (now (queue .entry)) (now (nodes .entry)) (now (children .entry)) (now (g .entry)) (now (d .entry)) (room (now (addresses .entry)) (now (figures .entry)))) ⌝ }
+    ensures { λ r. ⌜ now (addresses .exit) ≡ allAddresses (allAsked t (now (book .entry)) (now (queue .entry)) (now (nodes .entry)) (now (children .entry)) (now (g .entry)) (now (d .entry)) (room (now (addresses .entry)) (now (figures .entry)))) (now (addresses .entry)) ⌝ }
+    ensures { λ r. ⌜ now (figures .exit) ≡ allFigures (allAsked t (now (book .entry)) (now (queue .entry)) (now (nodes .entry)) (now (children .entry)) (now (g .entry)) (now (d .entry)) (room (now (addresses .entry)) (now (figures .entry)))) (now (figures .entry)) ⌝ }
 {
     match tested(t, book, queue, nodes, children, g, d) {
         Checked::Refused(r) => AllNodeKl::AllRefused(r),
@@ -201,7 +202,7 @@ pub fn kl_div_stats(
     g: &[f64],
     d: &[f64],
 ) -> KlDivStats
-    ensures { λ r. ⌜ statsAnswer r ≡ statsReading (formRefusal t (now (book .entry)) (now (queue .entry))) (now (g .entry)) (now (d .entry)) (now (nodes .entry)) (now (children .entry)) (nodesOf t (now (book .entry))) (sequenceLen t) ⌝ }
+    ensures { λ r. ⌜ statsAnswer r ≡ statsAsked t (now (book .entry)) (now (queue .entry)) (now (nodes .entry)) (now (children .entry)) (now (g .entry)) (now (d .entry)) ⌝ }
 {
     match tested(t, book, queue, nodes, children, g, d) {
         Checked::Refused(r) => KlDivStats::StatsRefused(r),

@@ -15,7 +15,8 @@ ghost use Rattle.divergence.specs.Nodes.{listedNodes, evidenceOf};
 ghost use Rattle.divergence.specs.Probability.{posterior, evidenceProbVector};
 ghost use Rattle.divergence.specs.Merge.{Mergeable, mergedCounts};
 ghost use Rattle.divergence.specs.Listing.{Usable};
-ghost use Rattle.divergence.specs.Readings.{formRefusal, nodesOf, room, vectorReading, probReading, evidenceReading, vectorAddresses, vectorFigures};
+ghost use Rattle.divergence.specs.Readings.{room, vectorReading, vectorAddresses, vectorFigures};
+ghost use Rattle.divergence.specs.Asked.{probAsked, evidenceAsked};
 ghost use Rattle.divergence.specs.Answers.{vectorAnswer, vectorResult, Vectored};
 use crate::answers::ProbVector;
 use crate::evidence::Listed;
@@ -136,9 +137,9 @@ pub fn prob_vector(
     addresses: &mut [u8],
     figures: &mut [f64],
 ) -> ProbVector
-    ensures { λ r. ⌜ vectorAnswer r ≡ vectorResult (probReading (formRefusal t (now (book .entry)) (now (queue .entry))) (now (nodes .entry)) (now (children .entry)) (nodesOf t (now (book .entry))) (rankOf scale point) (room (now (addresses .entry)) (now (figures .entry)))) ⌝ }
-    ensures { λ r. ⌜ now (addresses .exit) ≡ vectorAddresses (probReading (formRefusal t (now (book .entry)) (now (queue .entry))) (now (nodes .entry)) (now (children .entry)) (nodesOf t (now (book .entry))) (rankOf scale point) (room (now (addresses .entry)) (now (figures .entry)))) (now (addresses .entry)) ⌝ }
-    ensures { λ r. ⌜ now (figures .exit) ≡ vectorFigures (probReading (formRefusal t (now (book .entry)) (now (queue .entry))) (now (nodes .entry)) (now (children .entry)) (nodesOf t (now (book .entry))) (rankOf scale point) (room (now (addresses .entry)) (now (figures .entry)))) (now (figures .entry)) ⌝ }
+    ensures { λ r. ⌜ vectorAnswer r ≡ vectorResult (probAsked t (now (book .entry)) (now (queue .entry)) (now (nodes .entry)) (now (children .entry)) (rankOf scale point) (room (now (addresses .entry)) (now (figures .entry)))) ⌝ }
+    ensures { λ r. ⌜ now (addresses .exit) ≡ vectorAddresses (probAsked t (now (book .entry)) (now (queue .entry)) (now (nodes .entry)) (now (children .entry)) (rankOf scale point) (room (now (addresses .entry)) (now (figures .entry)))) (now (addresses .entry)) ⌝ }
+    ensures { λ r. ⌜ now (figures .exit) ≡ vectorFigures (probAsked t (now (book .entry)) (now (queue .entry)) (now (nodes .entry)) (now (children .entry)) (rankOf scale point) (room (now (addresses .entry)) (now (figures .entry)))) (now (figures .entry)) ⌝ }
 {
     match check_priors(nodes, children) {
         Checked::Refused(r) => ProbVector::VectorRefused(r),
@@ -173,9 +174,9 @@ pub fn evidence_prob_vector(
     addresses: &mut [u8],
     figures: &mut [f64],
 ) -> ProbVector
-    ensures { λ r. ⌜ vectorAnswer r ≡ vectorResult (evidenceReading (formRefusal t (now (book .entry)) (now (queue .entry))) (nodesOf t (now (book .entry))) (rankOf scale point) (room (now (addresses .entry)) (now (figures .entry)))) ⌝ }
-    ensures { λ r. ⌜ now (addresses .exit) ≡ vectorAddresses (evidenceReading (formRefusal t (now (book .entry)) (now (queue .entry))) (nodesOf t (now (book .entry))) (rankOf scale point) (room (now (addresses .entry)) (now (figures .entry)))) (now (addresses .entry)) ⌝ }
-    ensures { λ r. ⌜ now (figures .exit) ≡ vectorFigures (evidenceReading (formRefusal t (now (book .entry)) (now (queue .entry))) (nodesOf t (now (book .entry))) (rankOf scale point) (room (now (addresses .entry)) (now (figures .entry)))) (now (figures .entry)) ⌝ }
+    ensures { λ r. ⌜ vectorAnswer r ≡ vectorResult (evidenceAsked t (now (book .entry)) (now (queue .entry)) (rankOf scale point) (room (now (addresses .entry)) (now (figures .entry)))) ⌝ }
+    ensures { λ r. ⌜ now (addresses .exit) ≡ vectorAddresses (evidenceAsked t (now (book .entry)) (now (queue .entry)) (rankOf scale point) (room (now (addresses .entry)) (now (figures .entry)))) (now (addresses .entry)) ⌝ }
+    ensures { λ r. ⌜ now (figures .exit) ≡ vectorFigures (evidenceAsked t (now (book .entry)) (now (queue .entry)) (rankOf scale point) (room (now (addresses .entry)) (now (figures .entry)))) (now (figures .entry)) ⌝ }
 {
     if !in_form(t, book, queue) {
         return ProbVector::VectorRefused(Refusal::Form);

@@ -1,4 +1,3 @@
--- `Codes` says what a call returns and when it writes a lent number, `Outputs` what it writes there, `Asked` what each reading of a lent tracker is.
+-- `Codes` says what a call returns and when it writes a lent number, `Outputs` what it writes there.
 pub mod Codes
 pub mod Outputs
-pub mod Asked

@@ -3,10 +3,10 @@
 ghost use mathlib.Core.Path.{_≡_};
 ghost use Rattle.priors.specs.Address.{rankOf};
 ghost use Rattle.divergence.specs.Readings.{room, vectorAddresses, vectorFigures, allAddresses, allFigures};
+ghost use Rattle.divergence.specs.Asked.{probAsked, evidenceAsked, klAsked, allAsked, statsAsked};
 ghost use Rattle.divergence.specs.Answers.{vectorResult, allResult};
 ghost use Rattle.exports.specs.Codes.{code, written, scaleNamed, pointNamed};
 ghost use Rattle.exports.specs.Outputs.{trackerOf, placesOf, endingOf, itself, allCounts, fourFigures, threeCounts};
-ghost use Rattle.exports.specs.Asked.{probAsked, evidenceAsked, klAsked, allAsked, statsAsked};
 use crate::answers::tell_all;
 use crate::answers::tell_kl;
 use crate::answers::tell_stats;

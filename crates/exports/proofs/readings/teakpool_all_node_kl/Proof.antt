@@ -2,10 +2,10 @@
 use mathlib.Core.Path.{ap, _∙_}
 use Rattle.book.specs.declared.trackers.Tracker.{Tracker}
 use Rattle.divergence.specs.Readings.{Reading, Divergences, room, allAddresses, allFigures}
+use Rattle.divergence.specs.Asked.{allAsked}
 use Rattle.divergence.specs.Answers.{AllResult, allResult}
 use Rattle.exports.specs.Codes.{code, written, scaleNamed, pointNamed}
 use Rattle.exports.specs.Outputs.{allCounts}
-use Rattle.exports.specs.Asked.{allAsked}
 use borrow.Author.Needs.{needs}
 use Rattle.exports.proofs.readings.teakpool_all_node_kl.Statement.{statement}
 use Rattle.exports.proofs.readings.teakpool_all_node_kl.Tie as tie

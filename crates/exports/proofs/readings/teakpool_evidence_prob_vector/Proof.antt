@@ -7,10 +7,10 @@ use Rattle.priors.specs.Address.{rankOf}
 use Rattle.priors.specs.Priors.{Counts}
 use Rattle.book.specs.declared.trackers.Tracker.{Tracker}
 use Rattle.divergence.specs.Readings.{Reading, room, vectorAddresses, vectorFigures}
+use Rattle.divergence.specs.Asked.{evidenceAsked}
 use Rattle.divergence.specs.Answers.{VectorResult, vectorResult}
 use Rattle.exports.specs.Codes.{code, written}
 use Rattle.exports.specs.Outputs.{placesOf, endingOf}
-use Rattle.exports.specs.Asked.{evidenceAsked}
 use borrow.Author.Needs.{needs}
 use Rattle.exports.proofs.readings.teakpool_evidence_prob_vector.Statement.{statement}
 use Rattle.exports.proofs.readings.teakpool_evidence_prob_vector.Tie as tie

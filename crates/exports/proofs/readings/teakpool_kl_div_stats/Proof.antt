@@ -2,9 +2,9 @@
 use mathlib.Core.Path.{ap, _∙_}
 use Rattle.book.specs.declared.trackers.Tracker.{Tracker}
 use Rattle.divergence.specs.Readings.{Reading, Statistics}
+use Rattle.divergence.specs.Asked.{statsAsked}
 use Rattle.exports.specs.Codes.{code, written, scaleNamed, pointNamed}
 use Rattle.exports.specs.Outputs.{fourFigures, threeCounts}
-use Rattle.exports.specs.Asked.{statsAsked}
 use borrow.Author.Needs.{needs}
 use Rattle.exports.proofs.readings.teakpool_kl_div_stats.Statement.{statement}
 use Rattle.exports.proofs.readings.teakpool_kl_div_stats.Tie as tie

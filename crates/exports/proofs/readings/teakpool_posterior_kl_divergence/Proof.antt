@@ -7,9 +7,9 @@ use Rattle.priors.specs.Address.{rankOf}
 use lib.Ieee.{Float}
 use Rattle.book.specs.declared.trackers.Tracker.{Tracker}
 use Rattle.divergence.specs.Readings.{Reading}
+use Rattle.divergence.specs.Asked.{klAsked}
 use Rattle.exports.specs.Codes.{code, written}
 use Rattle.exports.specs.Outputs.{itself}
-use Rattle.exports.specs.Asked.{klAsked}
 use borrow.Author.Needs.{needs}
 use Rattle.exports.proofs.readings.teakpool_posterior_kl_divergence.Statement.{statement}
 use Rattle.exports.proofs.readings.teakpool_posterior_kl_divergence.Tie as tie
