@@ -21,8 +21,7 @@ use Rattle.divergence.specs.Nodes.{Node, evidenceOf}
 use Rattle.divergence.specs.Probability as Vectors
 use Rattle.divergence.specs.Divergence.{nodeDivergence}
 use Rattle.divergence.specs.Statistics.{Walk, stopped, walked, visited, walk}
-use Rattle.divergence.specs.Readings.{Reading, refused, nothing, answered, unless, room, fitting, vectorReading, probReading, evidenceReading, divergenceReading, ofListed, klReading, Divergences, withPrior, walkReading, allReading, statsReadingOf, statsReading}
-use Rattle.divergence.specs.Answers.{vectorResult, allResult}
+use Rattle.divergence.specs.Readings.{Reading, refused, nothing, answered, mapped, unless, room, fitting, vectorReading, probReading, evidenceReading, divergenceReading, ofListed, klReading, Divergences, withPrior, walkReading, allReading, statsReadingOf, statsReading}
 use Rattle.divergence.specs.Claims.{ReadingCall, probVector, evidenceProbVector, posteriorKlDivergence, allNodeKl, klDivStats, readingAnswer}
 use Rattle.divergence.specs.Corollaries.{readingNumber, answerNumber}
 
@@ -131,15 +130,10 @@ stats-other len (walked ps k) h = record { not-nine = h }
 -- ---- the readings, of a tracker in form
 
 -- what stands in the result has the same number
-vector-result : {r : Reading Counts} → Other r → Other (vectorResult r)
-vector-result {r = refused n node} h = record { not-nine = h .not-nine }
-vector-result {r = nothing} h = nothing-other
-vector-result {r = answered c} h = answered-other _
-
-all-result : {r : Reading Divergences} → Other r → Other (allResult r)
-all-result {r = refused n node} h = record { not-nine = h .not-nine }
-all-result {r = nothing} h = nothing-other
-all-result {r = answered a} h = answered-other _
+mapped-other : {X Y : Type 0} (part : X → Y) {r : Reading X} → Other r → Other (mapped part r)
+mapped-other part {r = refused n node} h = record { not-nine = h .not-nine }
+mapped-other part {r = nothing} h = nothing-other
+mapped-other part {r = answered x} h = answered-other (part x)
 
 prob-other : (nodes children : List ℕ) (ns : List Node) (rank have : ℕ) → Other (probReading 0 nodes children ns rank have)
 unfolding probReading
@@ -165,8 +159,8 @@ div-stats-other G D nodes children ns len =
 
 pub reading-not-nine : (ns : List Node) (len : ℕ) (c : ReadingCall) → answerNumber (readingAnswer 0 ns len c) ≡ 9 → ⊥
 unfolding readingAnswer
-reading-not-nine ns len (probVector nodes children scale point addresses figures) = vector-result (prob-other nodes children ns (rankOf scale point) (room addresses figures)) .not-nine
-reading-not-nine ns len (evidenceProbVector scale point addresses figures) = vector-result (evidence-other ns (rankOf scale point) (room addresses figures)) .not-nine
+reading-not-nine ns len (probVector nodes children scale point addresses figures) = mapped-other _ (prob-other nodes children ns (rankOf scale point) (room addresses figures)) .not-nine
+reading-not-nine ns len (evidenceProbVector scale point addresses figures) = mapped-other _ (evidence-other ns (rankOf scale point) (room addresses figures)) .not-nine
 reading-not-nine ns len (posteriorKlDivergence nodes children G D scale point) = kl-other G D nodes children ns (rankOf scale point) .not-nine
-reading-not-nine ns len (allNodeKl nodes children G D addresses figures) = all-result (all-other G D nodes children ns (room addresses figures)) .not-nine
+reading-not-nine ns len (allNodeKl nodes children G D addresses figures) = mapped-other _ (all-other G D nodes children ns (room addresses figures)) .not-nine
 reading-not-nine ns len (klDivStats nodes children G D) = div-stats-other G D nodes children ns len .not-nine

@@ -15,7 +15,7 @@ use Rattle.divergence.specs.declared.answers.AllNodeKl.the-variants.{All
 use Rattle.divergence.specs.declared.answers.KlDivStats.{KlDivStats}
 use Rattle.divergence.specs.declared.answers.KlDivStats.the-variants.{Stats, StatsRefused}
 use Rattle.divergence.specs.Probability.{figure}
-use Rattle.divergence.specs.Readings.{Reading, refused, nothing, answered, vectorAddresses, vectorFigures, Divergences, Statistics}
+use Rattle.divergence.specs.Readings.{Reading, refused, nothing, answered, mapped, vectorAddresses, vectorFigures, Divergences, Statistics}
 
 -- ---- `prob_vector` and `evidence_prob_vector`: the number of places and the ending's figure stand in the result
 
@@ -29,9 +29,7 @@ vectorAnswer NoVector = nothing
 vectorAnswer (VectorRefused r) = refused (numberOf r) (namedNode r)
 
 abbrev pub vectorResult : Reading Counts → Reading VectorResult
-vectorResult (refused n node) = refused n node
-vectorResult nothing = nothing
-vectorResult (answered c) = answered (record { places = length (c .children); ending = figure (c .ending) (total c) })
+vectorResult r = mapped (λ (c : Counts). record { places = length (c .children); ending = figure (c .ending) (total c) }) r
 
 -- what stands after an answer: the result, and both outputs
 pub record Vectored (reading : Reading Counts) (r : ProbVector) (addresses addresses′ : List ℕ) (figures figures′ : List Float) : Type 0 where
@@ -57,9 +55,7 @@ allAnswer (AllKl n k) = answered (record { places = n; skipped = k })
 allAnswer (AllRefused r) = refused (numberOf r) (namedNode r)
 
 abbrev pub allResult : Reading Divergences → Reading AllResult
-allResult (refused n node) = refused n node
-allResult nothing = nothing
-allResult (answered a) = answered (record { places = length (a .places); skipped = a .skipped })
+allResult r = mapped (λ (a : Divergences). record { places = length (a .places); skipped = a .skipped }) r
 
 -- ---- `kl_div_stats`
 

@@ -30,6 +30,18 @@ pub data Reading (X : Type 0) : Type 0 where
   nothing : Reading X
   answered : X → Reading X
 
+-- a part of an answer, or what stood there before
+abbrev pub written : {X Y : Type 0} → (X → Y) → Reading X → Y → Y
+written part (refused n node) before = before
+written part nothing before = before
+written part (answered x) before = part x
+
+-- a part of an answer as an answer
+abbrev pub mapped : {X Y : Type 0} → (X → Y) → Reading X → Reading Y
+mapped part (refused n node) = refused n node
+mapped part nothing = nothing
+mapped part (answered x) = answered (part x)
+
 -- a check that refuses with a number, 0 for none
 abbrev pub unless : {X : Type 0} → ℕ → Reading X → Reading X
 unless zero r = r
@@ -80,14 +92,10 @@ evidenceReading form ns rank have = unless form (vectorReading have (evidencePro
 
 -- the children fill the output, ascending
 abbrev pub vectorAddresses : Reading Counts → List ℕ → List ℕ
-vectorAddresses (refused n node) addresses = addresses
-vectorAddresses nothing addresses = addresses
-vectorAddresses (answered c) addresses = filledAddresses (keys (c .children)) addresses
+vectorAddresses r addresses = written (λ (c : Counts). filledAddresses (keys (c .children)) addresses) r addresses
 
 abbrev pub vectorFigures : Reading Counts → List Float → List Float
-vectorFigures (refused n node) figures = figures
-vectorFigures nothing figures = figures
-vectorFigures (answered c) figures = filledFigures (figuresOf (total c) (c .children)) figures
+vectorFigures r figures = written (λ (c : Counts). filledFigures (figuresOf (total c) (c .children)) figures) r figures
 
 -- ---- `posterior_kl_divergence`
 
@@ -141,14 +149,10 @@ valuesOf ps = map (λ (p : Place). p .value) ps
 
 -- the nodes fill the output, ascending
 abbrev pub allAddresses : Reading Divergences → List ℕ → List ℕ
-allAddresses (refused n node) addresses = addresses
-allAddresses nothing addresses = addresses
-allAddresses (answered a) addresses = filledAddresses (ranksOf (a .places)) addresses
+allAddresses r addresses = written (λ (a : Divergences). filledAddresses (ranksOf (a .places)) addresses) r addresses
 
 abbrev pub allFigures : Reading Divergences → List Float → List Float
-allFigures (refused n node) figures = figures
-allFigures nothing figures = figures
-allFigures (answered a) figures = filledFigures (valuesOf (a .places)) figures
+allFigures r figures = written (λ (a : Divergences). filledFigures (valuesOf (a .places)) figures) r figures
 
 -- ---- `kl_div_stats`
 

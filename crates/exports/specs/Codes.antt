@@ -4,18 +4,14 @@ use mathlib.Core.Option.{Option, none, some}
 use lib.IntN.{ℤ}
 use Rattle.priors.specs.declared.addresses.Address.{Address}
 use Rattle.divergence.specs.Readings.{Reading, refused, nothing, answered}
+-- a part of an answer, or what stood there before
+pub use Rattle.divergence.specs.Readings.{written}
 
 -- 0 for an answer, 100 for none, else the refusal's number
 abbrev pub code : {X : Type 0} → Reading X → ℕ
 code (refused n node) = n
 code nothing = 100
 code (answered x) = 0
-
--- a part of an answer, or what stood there before
-abbrev pub written : {X Y : Type 0} → (X → Y) → Reading X → Y → Y
-written part (refused n node) before = before
-written part nothing before = before
-written part (answered x) before = part x
 
 -- the scale and the point of a node, or what stood there before
 abbrev pub scaleOr : Option Address → ℤ → ℤ
