@@ -1,7 +1,7 @@
 -- The checks before a reading: what a reading answers by their number, and what their passing tells. Assumes nothing.
 use mathlib.Core.Path.{_≡_, refl, sym, ap, _∙_}
 use mathlib.Core.Bool.{Bool, true, false, cond, _&&_}
-use Prim.Native.Nat.{ℕ, zero, suc, _*_, _/_, _%_, _≤_, _<_}
+use Prim.Native.Nat.{ℕ, zero, suc, _*_, _%_, _≤_, _<_}
 use native.Mathlib.Omega.{arith}
 use mathlib.Core.List.{List}
 use mathlib.Core.Option.{Option, none}
@@ -16,7 +16,7 @@ use Rattle.priors.specs.Limits.{maxNodes, maxChildren}
 use Rattle.priors.specs.Refusals.{numberOf, namedNode}
 use Rattle.priors.specs.Tables.{lengthsFit, entriesFit, tablesRefusal}
 use Rattle.priors.specs.Priors.{records, ascends, wholeRecords, everyNode, everyChild, firstLinkFits, nextLinkFits, chainFits, chainAscends, countFits, totalFits, priorsRefusal}
-use Rattle.priors.proofs.BelowLaws.{first-true, second-true}
+use Rattle.priors.proofs.BelowLaws.{second-true}
 use Rattle.book.specs.declared.trackers.Tracker.{Tracker}
 use Rattle.book.specs.Limits.{maxEntries}
 use Rattle.book.specs.Form.{bookFits, capacity, formed, inForm}

@@ -2,7 +2,7 @@
 -- record's squares are infinite. Assumes nothing.
 use mathlib.Core.Path.{_≡_, refl}
 use mathlib.Core.Bool.{true, false}
-use Prim.Native.Nat.{ℕ, _-_, _^_}
+use Prim.Native.Nat.{_-_, _^_}
 use lib.IntN.{pos}
 use lib.Ieee.{fin, inf, binary64, round, mul, ofBits}
 use Rattle.divergence.specs.Numbers.{fmul, zero64, tiny64, min64, max64}

@@ -1,13 +1,13 @@
 -- Whole numbers as floats: up to 2 ^ 53 nothing is lost, and a sum or a product of two of them is that of the numbers, rounded once. So the totals that goko adds
 -- up as floats, count by count, are the whole totals made floats once. Assumes nothing.
-use mathlib.Core.Path.{_≡_, refl, sym, ap, _∙_}
-use mathlib.Core.Bool.{Bool, true, false, true≢false}
-use Prim.Native.Nat.{ℕ, zero, suc, _+_, _*_, _^_, _≤_, _<_}
+use mathlib.Core.Path.{_≡_, sym, ap, _∙_}
+use mathlib.Core.Bool.{true, false, true≢false}
+use Prim.Native.Nat.{ℕ, _+_, _*_, _^_, _≤_}
 use mathlib.Core.List.{List, [], _∷_}
 use native.Mathlib.Nat.{add-zero, add-assoc, mul-one, mul-comm, mul-assoc, mul-left-comm, add-mul, mul-pos, zero-lt-suc}
 use native.Mathlib.Omega.{arith}
-use lib.Dec.{T, leb, le→leb}
-use lib.IntN.{ℤ, pos}
+use lib.Dec.{T, le→leb}
+use lib.IntN.{pos}
 use lib.Ieee.{Float, fin, Format, binary64, up, down, round, add, mul, ofInt, inFloat, toUnsigned}
 use lib.Ieee.Fits.{down-pos}
 use lib.Ieee.Exact.{HasValue}

@@ -1,11 +1,11 @@
 -- The passes that fill an output with all listed nodes: how the count of nodes with a prior, the first refusal and the filling go on from one node to the next.
 -- Assumes nothing.
-use mathlib.Core.Path.{_≡_, refl, sym, ap, ap₂, _∙_}
-use Prim.Native.Nat.{ℕ, zero, suc, _+_, _-_, _*_, _≤_, _<_}
+use mathlib.Core.Path.{_≡_, refl, sym, ap, _∙_}
+use Prim.Native.Nat.{ℕ, _+_, _*_, _≤_, _<_}
 use native.Mathlib.Nat.{add-zero, zero-add}
 use native.Mathlib.Omega.{arith}
 use mathlib.Core.Bool.{Bool, true, false, cond}
-use mathlib.Core.List.{List, [], _∷_, map, flatMap}
+use mathlib.Core.List.{List, [], _∷_, flatMap}
 use mathlib.Core.Option.{Option, none, some, Option·map}
 use lib.Dec.{leb}
 use lib.ListN.{length, length-map, length-set}
@@ -28,15 +28,15 @@ use Rattle.divergence.specs.declared.divergences.NodeFit.{NodeFit}
 use Rattle.divergence.specs.declared.divergences.NodeFit.the-variants.{Fits, NoRecord, LacksChild, PastEnd}
 use Rattle.divergence.specs.declared.fillings.Filling.{Filling}
 use Rattle.divergence.specs.Nodes.{Node, listedNodes, spread}
-use Rattle.divergence.specs.Parts.{part, nodeAt, evidenceAt, nodesFrom}
+use Rattle.divergence.specs.Parts.{nodeAt, evidenceAt, nodesFrom}
 use Rattle.divergence.specs.Divergence.{lacksChild, divergence, nodeDivergence}
 use Rattle.divergence.specs.Fits.{fitOf}
 use Rattle.divergence.specs.Statistics.{Place, Walk, stopped, walked, visited, walk}
-use Rattle.divergence.specs.Readings.{Reading, refused, answered, Divergences, fitting, hasPrior, withPrior, walkReading, allListed, ranksOf, valuesOf, filledAddresses, filledFigures}
+use Rattle.divergence.specs.Readings.{refused, answered, hasPrior, withPrior, walkReading, allListed, ranksOf, valuesOf, filledAddresses, filledFigures}
 use Rattle.divergence.specs.Fillings.{fitStop, stopOf, placesOf, skippedOf, needed, fillingOf, putAddress, putFigure}
 use Rattle.divergence.proofs.NodeLaws.{part-none}
 use Rattle.divergence.proofs.FitLaws.{fitDivergence, fit-divergence}
-use Rattle.divergence.proofs.WalkLaws.{Next, divergenceAt, walkFrom, walk-next, walk-end}
+use Rattle.divergence.proofs.WalkLaws.{Next, walkFrom, walk-next, walk-end}
 use Rattle.divergence.proofs.OutputLaws.{filledFrom, addresses-start, addresses-on, addresses-end, figures-start, figures-on, figures-end}
 
 -- ---- how many have a prior

@@ -1,20 +1,18 @@
 -- The tests of a node and its divergence: which case the tests lead to, and what a node that fits has. Assumes nothing.
 use mathlib.Core.Path.{_≡_, refl, sym, ap, _∙_}
-use Prim.Native.Nat.{ℕ, zero, suc, _+_, _-_, _*_, _^_, _≤_, _<_}
+use Prim.Native.Nat.{ℕ, _+_, _≤_, _<_}
 use native.Mathlib.Omega.{arith}
 use mathlib.Core.Bool.{Bool, true, false, cond, _&&_}
-use mathlib.Core.List.{List, [], _∷_, map}
+use mathlib.Core.List.{List}
 use mathlib.Core.Option.{Option, none, some, Option·map}
 use lib.Dec.{eqb, leb}
 use lib.ListN.{length}
 use lib.Ieee.{Float}
 use borrow.Author.Tests.{le-leb, lt-leb, eqb-true, leb-false}
 use Rattle.priors.specs.declared.records.Record.{Record}
-use Rattle.priors.specs.Rows.{Row}
 use Rattle.priors.specs.Limits.{maxTable}
 use Rattle.priors.specs.Tables.{lengthsFit, tablesRefusal}
-use Rattle.priors.specs.Priors.{Counts, countSum, total, priorOfNode}
-use Rattle.priors.proofs.BelowLaws.{first-true}
+use Rattle.priors.specs.Priors.{Counts, total, priorOfNode}
 use Rattle.divergence.specs.declared.divergences.NodeDivergence.{NodeDivergence}
 use Rattle.divergence.specs.declared.divergences.NodeDivergence.the-variants.{Value, NoPrior, MissingChild, PastTable}
 use Rattle.divergence.specs.declared.divergences.NodeFit.{NodeFit}

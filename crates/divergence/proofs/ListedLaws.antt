@@ -5,7 +5,7 @@ use mathlib.Core.Bool.{Bool, true, false, cond, _&&_, _||_}
 use Prim.Native.Nat.{ℕ, zero, suc, _+_, _-_, _*_, _^_, _≤_, _<_}
 use native.Mathlib.Omega.{arith}
 use mathlib.Core.List.{List, [], _∷_, map}
-use mathlib.Core.Option.{Option, none, some}
+use mathlib.Core.Option.{none, some}
 use lib.Dec.{eqb, leb, ltb}
 use lib.ListN.{length, getD, drop}
 use lib.Seq.{drop-drop}
@@ -15,20 +15,17 @@ use Rattle.priors.specs.Search.{blank, place, holds}
 use Rattle.priors.specs.Priors.{Counts}
 use Rattle.priors.proofs.Orders.{Alike, alike, unlike, compared}
 use Rattle.priors.proofs.ByPlace.{Spot, end, before, here, later, spot, spot-lt}
-use Rattle.priors.proofs.Ranks.{rank-lt}
 use Rattle.priors.proofs.Tests.{both}
 use Rattle.priors.proofs.RowLaws.{ascends-from}
-use Rattle.book.specs.declared.entries.Found.{Found}
 use Rattle.book.specs.declared.entries.Found.the-variants.{At, Missing}
 use Rattle.book.specs.Keys.{noChild, endKey, nodeOf, kindOf, childOf}
 use Rattle.book.specs.Entries.{rowAt, rows, findIn}
 use Rattle.book.specs.Figures.{All}
 use Rattle.book.specs.Form.{plain, follows, formedAfter, formed}
-use Rattle.book.proofs.KeyLaws.{key-node, key-kind}
 use Rattle.book.proofs.ListingForm.{node-end, kind-end}
 use Rattle.book.proofs.EntryLaws.{length-rows, getD-rows}
 use Rattle.book.proofs.FormLaws.{formed-ascends, ending-key}
-use Rattle.divergence.specs.Nodes.{Node, childRow, spread, listedNodes, evidenceOf}
+use Rattle.divergence.specs.Nodes.{childRow, spread, listedNodes, evidenceOf}
 use Rattle.divergence.specs.Parts.{part, leading, evidenceAt}
 use Rattle.divergence.proofs.WalkLaws.{nodes-ending, nodes-child, front-ending, front-child, front-children, end-le}
 

@@ -1,29 +1,29 @@
 -- A book's entries as nodes: a part of the book by its first entry, where a node's children end, and what the nodes from a place on are. Assumes nothing.
 use mathlib.Core.Path.{_≡_, refl, sym, ap, ap₂, _∙_}
 use Prim.Native.Nat.{ℕ, zero, suc, _+_, _-_, _*_, _^_, _≤_, _<_}
-use native.Mathlib.Nat.{add-zero, suc-add}
+use native.Mathlib.Nat.{add-zero}
 use native.Mathlib.Omega.{arith}
 use mathlib.Core.Bool.{Bool, true, false, cond, _&&_}
 use mathlib.Core.List.{List, [], _∷_, map}
 use lib.Dec.{eqb, ltb}
-use lib.ListN.{length, getD, take, drop}
+use lib.ListN.{length, getD, drop}
 use lib.Seq.{drop-drop, getD-drop}
 use borrow.Author.Tests.{eq-eqb, ne-eqb, eqb-true}
 use Rattle.priors.specs.Word.{word}
 use Rattle.priors.specs.Address.{rankAt}
-use Rattle.priors.specs.Rows.{Row, row}
+use Rattle.priors.specs.Rows.{Row}
 use Rattle.priors.specs.Search.{blank, place, holds}
-use Rattle.priors.specs.Priors.{Counts, countSum, total}
+use Rattle.priors.specs.Priors.{countSum, total}
 use Rattle.priors.proofs.BelowLaws.{second-true}
 use Rattle.priors.proofs.Ranks.{Bytes, word-lt, rankAt-lt}
 use Rattle.book.specs.declared.entries.Found.the-variants.{At, Missing}
 use Rattle.book.specs.Keys.{endKey, nodeOf, kindOf, childOf}
 use Rattle.book.specs.Entries.{keyAt, rowAt, rows, findIn}
 use Rattle.book.proofs.KeyLaws.{key-node, key-kind, key-child}
-use Rattle.book.proofs.EntryLaws.{row-drop, length-rows, getD-rows}
+use Rattle.book.proofs.EntryLaws.{row-drop, getD-rows}
 use Rattle.book.proofs.ListingForm.{node-end}
-use Rattle.divergence.specs.Nodes.{Node, childRow, spread, listedNodes}
-use Rattle.divergence.specs.Parts.{part, leading, nodeAt, evidenceAt, nodesFrom}
+use Rattle.divergence.specs.Nodes.{childRow}
+use Rattle.divergence.specs.Parts.{part, leading, nodeAt, evidenceAt}
 
 -- ---- a part of the book
 

@@ -21,7 +21,7 @@ use Rattle.divergence.specs.Nodes.{Node, evidenceOf}
 use Rattle.divergence.specs.Probability as Vectors
 use Rattle.divergence.specs.Divergence.{nodeDivergence}
 use Rattle.divergence.specs.Statistics.{Walk, stopped, walked, visited, walk}
-use Rattle.divergence.specs.Readings.{Reading, refused, nothing, answered, mapped, unless, room, fitting, vectorReading, probReading, evidenceReading, divergenceReading, ofListed, klReading, Divergences, withPrior, walkReading, allReading, statsReadingOf, statsReading}
+use Rattle.divergence.specs.Readings.{Reading, refused, nothing, answered, mapped, unless, room, fitting, vectorReading, probReading, evidenceReading, divergenceReading, ofListed, klReading, withPrior, walkReading, allReading, statsReadingOf, statsReading}
 use Rattle.divergence.specs.Claims.{ReadingCall, probVector, evidenceProbVector, posteriorKlDivergence, allNodeKl, klDivStats, readingAnswer}
 use Rattle.divergence.specs.Corollaries.{readingNumber, answerNumber}
 

@@ -1,7 +1,7 @@
 -- The room in an output, and its filling place by place: after each write, what is left to be written at the next place gives the same whole. Assumes nothing.
 use mathlib.Core.Path.{_≡_, refl, ap, _∙_}
 use Prim.Native.Nat.{ℕ, suc, _+_, _*_, _≤_, _<_, min}
-use native.Mathlib.Nat.{zero-add, add-zero, add-assoc, min-le-left, min-le-right}
+use native.Mathlib.Nat.{zero-add, add-zero, min-le-left, min-le-right}
 use native.Mathlib.Omega.{arith}
 use mathlib.Core.List.{List, [], _∷_, _++_, flatMap, append-assoc}
 use lib.ListN.{length, take, drop, set, length-append, take-append-drop}

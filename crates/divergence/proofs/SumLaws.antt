@@ -1,17 +1,16 @@
 -- A walk along a node's children: what one more child adds to the sums, and that no index is past the total. Assumes nothing.
-use mathlib.Core.Path.{_≡_, refl, sym, ap, _∙_}
-use Prim.Native.Nat.{ℕ, zero, suc, _+_, _*_, _≤_, _<_, zero-le, compare, Ordering, Ordering·lt, Ordering·eq, Ordering·gt}
+use mathlib.Core.Path.{_≡_, refl}
+use Prim.Native.Nat.{ℕ, _+_, _*_, _≤_, _<_, zero-le, compare, Ordering, Ordering·lt, Ordering·eq, Ordering·gt}
 use native.Mathlib.Omega.{arith}
 use mathlib.Core.Bool.{Bool, true, false, _||_}
 use mathlib.Core.List.{List, [], _∷_, map}
-use mathlib.Core.Option.{Option, none, some}
+use mathlib.Core.Option.{none, some}
 use lib.Ieee.{Float}
 use Rattle.priors.specs.Word.{word}
 use Rattle.priors.specs.Address.{rankAt}
 use Rattle.priors.specs.Rows.{Row, row, choose, look}
 use Rattle.priors.specs.Priors.{countSum}
 use Rattle.priors.proofs.Ranks.{Bytes}
-use Rattle.book.specs.Entries.{rowAt}
 use Rattle.divergence.specs.declared.sums.Sums.{Sums}
 use Rattle.divergence.specs.Nodes.{childRow}
 use Rattle.divergence.specs.Parts.{part}

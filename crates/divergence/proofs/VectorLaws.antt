@@ -1,17 +1,17 @@
 -- The counts whose figures are answered, as a merge has them, and the cases of the two readings of probabilities. Assumes nothing.
 use mathlib.Core.Path.{_≡_, refl, sym, ap, _∙_}
 use mathlib.Core.Bool.{true}
-use Prim.Native.Nat.{ℕ, _+_, _*_, _≤_, _<_}
+use Prim.Native.Nat.{ℕ, _+_, _≤_, _<_}
 use native.Mathlib.Omega.{arith}
 use mathlib.Core.List.{List, [], map}
-use mathlib.Core.Option.{Option, none, some}
+use mathlib.Core.Option.{none, some}
 use lib.ListN.{length}
 use borrow.Author.Tests.{lt-ltb, le-ltb}
 use Rattle.priors.specs.declared.refusals.Refusal.{Refusal}
 use Rattle.priors.specs.declared.records.Record.{Record}
 use Rattle.priors.specs.Below.{allBelow}
 use Rattle.priors.specs.Refusals.{numberOf, namedNode}
-use Rattle.priors.specs.Rows.{Row, keys, Ascends}
+use Rattle.priors.specs.Rows.{keys, Ascends}
 use Rattle.priors.specs.Priors.{Counts, recordCount, records, chain, chainOf, everyChild, nextLinkFits, priorOfNode, findRecord, priorOf, total, priorsRefusal}
 use Rattle.book.specs.declared.trackers.Tracker.{Tracker}
 use Rattle.book.specs.Entries.{rows, countAt}
@@ -22,7 +22,7 @@ use Rattle.divergence.specs.Parts.{part, evidenceAt}
 use Rattle.divergence.specs.Probability.{withEvidence, posterior, probVector, withTotal, evidenceProbVector}
 use Rattle.divergence.specs.Merge.{childEntries, mergedFrom, mergedCounts, Mergeable}
 use Rattle.divergence.specs.Listing.{ListedAt, Usable}
-use Rattle.divergence.specs.Readings.{Reading, refused, nothing, answered, unless, vectorReading, probReading, evidenceReading}
+use Rattle.divergence.specs.Readings.{refused, nothing, answered, unless, vectorReading, probReading, evidenceReading}
 use Rattle.divergence.proofs.MergeLaws.{evidence-alone}
 use Rattle.divergence.proofs.CheckLaws.{priors-le, unnamed, numbered, unless-some, form-few}
 

@@ -1,7 +1,7 @@
 -- A walk from node to node over a book's entries: the node at a place and the nodes after it, and how each reading goes on from one node to the next. Assumes nothing.
 use mathlib.Core.Path.{_≡_, refl, sym, ap, ap₂, _∙_}
 use Prim.Native.Nat.{ℕ, zero, suc, _+_, _-_, _*_, _≤_, _<_}
-use native.Mathlib.Nat.{add-zero, zero-add, add-assoc}
+use native.Mathlib.Nat.{add-zero, zero-add}
 use native.Mathlib.Omega.{arith}
 use mathlib.Core.Bool.{Bool, true, false, cond}
 use mathlib.Core.List.{List, [], _∷_, map}
@@ -10,11 +10,10 @@ use lib.Dec.{eqb}
 use lib.ListN.{length, drop}
 use lib.Seq.{drop-drop}
 use lib.Ieee.{Float, lt}
-use borrow.Author.Tests.{eqb-true, eq-eqb}
 use Rattle.priors.specs.Address.{addressOf}
 use Rattle.priors.specs.Rows.{Row}
 use Rattle.priors.specs.Refusals.{numberOf, namedNode}
-use Rattle.priors.specs.Priors.{Counts, priorOf}
+use Rattle.priors.specs.Priors.{priorOf}
 use Rattle.priors.proofs.Ranks.{Bytes}
 use Rattle.book.specs.Keys.{nodeOf, kindOf}
 use Rattle.book.specs.Entries.{rowAt, rows}

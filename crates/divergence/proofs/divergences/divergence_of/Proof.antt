@@ -1,10 +1,10 @@
 -- `divergence_of` meets its contract: the chain of steps is the definition's, and no index is past the total.
-use mathlib.Core.Path.{_≡_, sym, ap, _∙_}
+use mathlib.Core.Path.{_≡_}
 use native.Mathlib.Omega.{arith}
-use Prim.Native.Nat.{ℕ, _+_, _*_}
-use Rattle.priors.specs.Priors.{total, countSum, childrenOf, priorOfNode}
-use Rattle.divergence.specs.Parts.{part, evidenceAt}
-use Rattle.divergence.specs.Divergence.{divergence, closed, childTerms, endingTerm}
+use Prim.Native.Nat.{_+_}
+use Rattle.priors.specs.Priors.{total, priorOfNode}
+use Rattle.divergence.specs.Parts.{evidenceAt}
+use Rattle.divergence.specs.Divergence.{divergence}
 use Rattle.divergence.proofs.NodeLaws.{evidence-total, sum-on}
 use borrow.Author.Needs.{needs}
 use Rattle.divergence.proofs.divergences.divergence_of.Statement.{statement}

@@ -2,8 +2,7 @@
 use borrow.Author.Needs.{needs}
 use mathlib.Core.Path.{_≡_, refl, sym, ap, _∙_}
 use mathlib.Core.List.{map}
-use Prim.Native.Nat.{ℕ, _+_, _-_, _*_, _≤_}
-use Rattle.priors.specs.Address.{rankAt}
+use Prim.Native.Nat.{ℕ, _-_, _≤_}
 use Rattle.priors.specs.Rows.{look}
 use Rattle.priors.specs.Priors.{childrenOf}
 use Rattle.divergence.specs.Nodes.{childRow}

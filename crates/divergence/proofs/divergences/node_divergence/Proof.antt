@@ -1,8 +1,6 @@
 -- `node_divergence` meets its contract: the divergence goes by the tests, and a node that fits has what the chain of steps asks for.
-use mathlib.Core.Path.{_≡_, sym, ap, _∙_}
+use mathlib.Core.Path.{sym, ap, _∙_}
 use lib.ListN.{length}
-use mathlib.Core.Option.{Option, some}
-use Rattle.priors.specs.declared.records.Record.{Record}
 use Rattle.priors.specs.Priors.{records, findRecord, priorOf}
 use Rattle.priors.proofs.PriorLaws.{accepted, found-fits}
 use Rattle.divergence.specs.declared.divergences.NodeDivergence.the-variants.{Value}

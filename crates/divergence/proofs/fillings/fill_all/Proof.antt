@@ -1,11 +1,9 @@
 -- `fill_all` meets its contract: the output so far with what the nodes still to come put from the next place on is the output with all nodes.
 use borrow.Author.Needs.{needs}
-use mathlib.Core.Path.{_≡_, sym, ap, ap₂, subst, _∙_}
+use mathlib.Core.Path.{_≡_, ap, ap₂, subst, _∙_}
 use native.Mathlib.Omega.{arith}
-use Prim.Native.Nat.{ℕ, _+_, _-_, _*_, _≤_}
+use Prim.Native.Nat.{ℕ, _-_, _≤_}
 use mathlib.Core.List.{List}
-use lib.ListN.{length}
-use lib.Ieee.{Float}
 use Rattle.divergence.specs.declared.divergences.NodeDivergence.{NodeDivergence}
 use Rattle.divergence.specs.declared.fillings.Filling.{Filling}
 use Rattle.divergence.specs.Nodes.{Node}

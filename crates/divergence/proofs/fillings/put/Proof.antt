@@ -1,5 +1,5 @@
 -- `put` meets its contract: each case is the definition's.
-use mathlib.Core.Path.{_≡_, sym, ap, _∙_}
+use mathlib.Core.Path.{sym, ap, _∙_}
 use native.Mathlib.Omega.{arith}
 use Rattle.divergence.specs.Fillings.{needed, fillingOf, putAddress, putFigure}
 use borrow.Author.Needs.{needs}

@@ -1,11 +1,10 @@
 -- `with_prior` meets its contract: the nodes counted so far and those still to come are all that have a prior.
 use borrow.Author.Needs.{needs}
-use mathlib.Core.Path.{_≡_, sym, ap, _∙_}
+use mathlib.Core.Path.{_≡_, ap, _∙_}
 use native.Mathlib.Omega.{arith}
-use Prim.Native.Nat.{ℕ, _+_, _-_, _*_, _≤_}
+use Prim.Native.Nat.{ℕ, _+_, _-_, _≤_}
 use mathlib.Core.List.{List}
 use Rattle.priors.specs.Priors.{priorOf}
-use Rattle.divergence.specs.Nodes.{Node}
 use Rattle.divergence.specs.Parts.{part, leading, nodeAt, nodesFrom}
 use Rattle.divergence.specs.Readings.{hasPrior, withPrior}
 use Rattle.divergence.proofs.WalkLaws.{first, next}

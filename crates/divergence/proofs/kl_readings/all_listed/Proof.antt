@@ -2,7 +2,7 @@
 use mathlib.Core.Path.{_≡_, refl, sym, ap, ap₂, _∙_}
 use native.Mathlib.Nat.{le-min}
 use native.Mathlib.Omega.{arith}
-use Prim.Native.Nat.{ℕ, _+_, _*_, _/_, _≤_}
+use Prim.Native.Nat.{ℕ, _/_, _≤_}
 use lib.ListN.{length}
 use Rattle.priors.specs.declared.refusals.Checked.the-variants.{Passed}
 use Rattle.priors.proofs.PriorLaws.{accepted}
@@ -10,7 +10,7 @@ use Rattle.divergence.specs.Parts.{nodesFrom}
 use Rattle.divergence.specs.Statistics.{walk}
 use Rattle.divergence.specs.Readings.{Reading, answered, Divergences, withPrior, room, allAddresses, allFigures}
 use Rattle.divergence.specs.Answers.{AllResult, allResult}
-use Rattle.divergence.specs.Fillings.{stopOf, placesOf}
+use Rattle.divergence.specs.Fillings.{stopOf}
 use Rattle.divergence.proofs.FillLaws.{all-short, all-stopped, all-filled, places-number}
 use Rattle.divergence.proofs.OutputLaws.{short-addresses, short-figures}
 use borrow.Author.Needs.{needs}

@@ -1,6 +1,5 @@
 -- `all_node_kl` meets its contract: a check's refusal is the reading's, and where all pass the divergences of the listed nodes fill the output.
-use mathlib.Core.Path.{_≡_, sym, ap, _∙_}
-use Prim.Native.Nat.{ℕ}
+use mathlib.Core.Path.{sym, ap, _∙_}
 use mathlib.Core.List.{List}
 use Rattle.priors.specs.Rows.{Row}
 use Rattle.priors.specs.Refusals.{checkedNumber}

@@ -1,5 +1,5 @@
 -- `kl_div_stats` meets its contract: a check's refusal is the reading's, and where all pass the statistics are those of the listed nodes.
-use mathlib.Core.Path.{_≡_, sym, ap, ap₂, _∙_}
+use mathlib.Core.Path.{sym, ap, ap₂, _∙_}
 use Prim.Native.Nat.{ℕ}
 use mathlib.Core.List.{List}
 use Rattle.priors.specs.Rows.{Row}

@@ -1,5 +1,5 @@
 -- `listed_kl` meets its contract: the node that is found has the rank asked for, and one that is not found is not listed.
-use mathlib.Core.Path.{_≡_, sym, ap, subst, _∙_}
+use mathlib.Core.Path.{sym, ap, subst, _∙_}
 use native.Mathlib.Omega.{arith}
 use Prim.Native.Nat.{ℕ}
 use Rattle.priors.specs.Priors.{priorOf}

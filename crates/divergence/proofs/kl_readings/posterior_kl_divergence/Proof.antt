@@ -1,5 +1,5 @@
 -- `posterior_kl_divergence` meets its contract: a check's refusal is the reading's, and where all pass the node's divergence is.
-use mathlib.Core.Path.{_≡_, sym, ap, _∙_}
+use mathlib.Core.Path.{sym, ap, _∙_}
 use Prim.Native.Nat.{ℕ}
 use lib.IntN.{ℤ}
 use mir.Syntax.{w32}

@@ -1,5 +1,5 @@
 -- `tested` meets its contract: each check's number is the definition's, the lowest first.
-use mathlib.Core.Path.{_≡_, sym, ap, _∙_}
+use mathlib.Core.Path.{sym, ap, _∙_}
 use Rattle.priors.specs.Refusals.{checkedNumber}
 use Rattle.priors.specs.Tables.{tablesRefusal}
 use Rattle.priors.specs.Priors.{priorsRefusal}

@@ -2,7 +2,7 @@
 use borrow.Author.Needs.{needs}
 use mathlib.Core.Path.{_≡_, refl, sym, _∙_}
 use native.Mathlib.Omega.{arith}
-use Prim.Native.Nat.{_+_, _-_, _*_, _≤_}
+use Prim.Native.Nat.{_+_, _-_, _≤_}
 use Rattle.divergence.specs.Parts.{part, leading}
 use Rattle.divergence.proofs.NodeLaws.{leading-ending, leading-child, leading-none}
 use Rattle.divergence.proofs.nodes.children_end.Statement.{statement}

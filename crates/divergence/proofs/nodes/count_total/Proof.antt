@@ -1,6 +1,6 @@
 -- `count_total` meets its contract: the sum so far and the counts still to come are all counts.
 use borrow.Author.Needs.{needs}
-use mathlib.Core.Path.{_≡_, refl, sym, _∙_}
+use mathlib.Core.Path.{_≡_}
 use native.Mathlib.Omega.{arith}
 use Prim.Native.Nat.{_+_, _-_, _*_, _^_, _≤_}
 use Rattle.priors.specs.Priors.{countSum}

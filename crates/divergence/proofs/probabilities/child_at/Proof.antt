@@ -1,6 +1,6 @@
 -- A child's address comes back from the entry's key. Assumes nothing.
 use mathlib.Core.Path.{_≡_, sym, _∙_}
-use Prim.Native.Nat.{ℕ, _+_, _*_}
+use Prim.Native.Nat.{_+_, _*_}
 use Rattle.priors.specs.Word.{word}
 use Rattle.priors.specs.Address.{rankAt}
 use Rattle.priors.specs.Rows.{row}

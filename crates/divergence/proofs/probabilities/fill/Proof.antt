@@ -1,7 +1,7 @@
 -- Each turn fills one place: what is left, written from the place at hand on, gives the same outputs as the whole written from the start.
 -- Assumes nothing.
 use mathlib.Core.Path.{_≡_, refl, sym, ap, _∙_}
-use Prim.Native.Nat.{ℕ, suc, _+_, _*_, _≤_}
+use Prim.Native.Nat.{suc, _+_, _*_, _≤_}
 use native.Mathlib.Omega.{arith}
 use mathlib.Core.List.{List, flatMap}
 use lib.ListN.{length, length-map, length-set}

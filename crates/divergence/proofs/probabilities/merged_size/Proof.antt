@@ -1,14 +1,11 @@
 -- Each turn passes one child: what is counted and summed so far and what is left make up the whole. Assumes nothing.
 use mathlib.Core.Path.{_≡_, ap}
-use Prim.Native.Nat.{ℕ, _+_, _*_, _^_, _≤_}
+use Prim.Native.Nat.{_+_, _*_, _^_, _≤_}
 use native.Mathlib.Omega.{arith}
-use mathlib.Core.List.{List}
 use lib.ListN.{length}
-use Rattle.priors.specs.Rows.{Row}
 use Rattle.priors.specs.Priors.{countSum}
 use Rattle.divergence.specs.Merge.{mergedFrom, Mergeable}
 use Rattle.divergence.proofs.MergeLaws.{merged-end, merged-few}
-use borrow.Author.Needs.{needs}
 use Rattle.divergence.proofs.probabilities.merged_size.Statement.{statement}
 use Rattle.divergence.proofs.probabilities.merged_size.Tie as tie
 

@@ -1,8 +1,8 @@
 -- `stats_of` meets its contract: the tally so far with the walk over the nodes still to come gives the reading over all nodes.
 use borrow.Author.Needs.{needs}
-use mathlib.Core.Path.{_≡_, refl, sym, ap, ap₂, _∙_}
+use mathlib.Core.Path.{_≡_, sym, ap, ap₂, _∙_}
 use native.Mathlib.Omega.{arith}
-use Prim.Native.Nat.{ℕ, _+_, _-_, _*_, _≤_}
+use Prim.Native.Nat.{ℕ, _-_, _≤_}
 use mathlib.Core.List.{List}
 use Rattle.divergence.specs.declared.divergences.NodeDivergence.{NodeDivergence}
 use Rattle.divergence.specs.declared.statistics.KLDivergenceStats.{KLDivergenceStats}

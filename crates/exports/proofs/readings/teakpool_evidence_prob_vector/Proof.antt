@@ -1,5 +1,5 @@
 -- The reading is of the tracker with these numbers, and its answer is told.
-use mathlib.Core.Path.{_≡_, ap, ap₂, _∙_}
+use mathlib.Core.Path.{ap, ap₂, _∙_}
 use mir.Syntax.{w32}
 use mir.ValLaws.{toZ-ofZ}
 use lib.IntN.{ℤ}
