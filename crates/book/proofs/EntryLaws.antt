@@ -17,7 +17,7 @@ use Rattle.priors.proofs.Ranks.{Bytes, word-lt, rankAt-lt, rank-bytes, word-bac
 use Rattle.book.specs.declared.keys.Key.{Key}
 use Rattle.book.specs.Keys.{keyOf, nodeOf, kindOf, childOf, keyValue}
 use Rattle.book.specs.Entries.{keyAt, rowAt, rows, rowBytes, bytesOf}
-use Rattle.book.proofs.KeyLaws.{key-order, key-same, key-node, key-kind, key-child, key-parts, kind-lt, child-lt, node-lt, key-lt}
+use Rattle.book.proofs.KeyLaws.{key-order, key-same, key-node, key-kind, key-child, key-parts, kind-lt, child-lt, node-lt}
 
 -- ---- what stands at a place
 
@@ -164,8 +164,3 @@ pub bytesOf-rows : (s : List ℕ) → Bytes s → (n : ℕ) → 24 * n ≤ lengt
 bytesOf-rows s bytes n h =
     let len : length (bytesOf (rows s n)) ≡ 24 * n = length-bytesOf (rows s n) ∙ ap (λ (k : ℕ). 24 * k) (length-rows s n) in
     sym (take-at (bytesOf (rows s n)) (drop (24 * n) s) (24 * n) len) ∙ ap (take (24 * n)) (rows-forth s bytes n h)
-
--- what an entry's bytes spell is in range
-pub row-in-range : (s : List ℕ) → Bytes s → (a : ℕ) → InRange (rowAt s a)
-unfolding rowAt keyAt
-row-in-range s bytes a = record { key-fits = key-lt (rankAt s a) (word s (a + 8)) (rankAt s (a + 12)) (rankAt-lt s bytes a) (word-lt s bytes (a + 8)) (rankAt-lt s bytes (a + 12)); count-fits = word-lt s bytes (a + 20) }

@@ -1,5 +1,5 @@
--- How many rows there are during an add: none goes away, and once a path's listed keys are touched, counting and taking away bring none in. So an add leaves as many
--- rows as touching its keys does, which is what 12 looks at, and at no moment are there more. Assumes nothing.
+-- How many rows there are during an add: none goes away, and once a path's listed keys are touched, counting brings none in. So one pass leaves as many rows as
+-- touching its keys does, which is what 12 looks at, and at no moment are there more. Assumes nothing.
 use mathlib.Core.Path.{_≡_, refl, ap, _∙_}
 use Prim.Native.Nat.{ℕ, zero, suc, _+_, _≤_, _<_}
 use native.Mathlib.Omega.{arith}
@@ -11,10 +11,10 @@ use lib.ListN.{length}
 use Rattle.priors.specs.Rows.{Row, keys, Ascends, look, change, after, touch, bump, afterTouch}
 use Rattle.book.specs.Keys.{endKey, childKey}
 use Rattle.book.specs.Path.{Steps, listedKeys, countedKeys}
-use Rattle.book.specs.Changes.{changeAll, touchAll, bumpAll, fadeAll, leftKeys, addRows}
+use Rattle.book.specs.Changes.{changeAll, touchAll, bumpAll}
 use Rattle.book.specs.Recount.{occurrences}
 use Rattle.book.specs.Figures.{Listed}
-use Rattle.priors.proofs.RowLaws.{gained, look-change, length-change, length-fade, grows}
+use Rattle.priors.proofs.RowLaws.{gained, look-change, length-change, grows}
 use Rattle.book.proofs.Passes.{onePass}
 use Rattle.book.proofs.ManyRows.{times, look-all}
 use Rattle.book.proofs.Occurrences.{counted-listed}
@@ -55,17 +55,8 @@ length-bumps (k ∷ ks) rs h =
     length-bumps ks (bump k rs) (λ j i. listed-change (some 1) (λ c. c + 1) k j rs (h j (in-tail j k ks i)))
     ∙ length-listed-bump k rs (h k (in-head k k ks refl))
 
-length-fades : (ks : List ℕ) (rs : List Row) → length (fadeAll ks rs) ≡ length rs
-unfolding changeAll
-length-fades [] rs = refl
-length-fades (k ∷ ks) rs = length-fades ks _ ∙ length-fade k rs
-
 pub length-half : (p : Steps) (rs : List Row) → length (bumpAll (countedKeys p) (touchAll (listedKeys p) rs)) ≡ length (touchAll (listedKeys p) rs)
 length-half p rs = length-bumps (countedKeys p) (touchAll (listedKeys p) rs) (λ j i. listed-touched j (listedKeys p) rs (omega (arith, counted-listed j p)))
-
-pub length-added : (p : Steps) (l : Option Steps) (rs : List Row) → length (addRows p l rs) ≡ length (touchAll (listedKeys p) rs)
-unfolding addRows
-length-added p l rs = length-fades (leftKeys l) _ ∙ length-half p rs
 
 pub length-pass : (p : Steps) (rs : List Row) → Ascends 0 (keys rs) → length (onePass p rs) ≡ length (touchAll (listedKeys p) rs)
 length-pass p rs h = ap length (one-pass p rs h) ∙ length-half p rs

@@ -6,7 +6,6 @@ pub mod Window
 pub mod Image
 pub mod Step
 -- what follows from the rows being the recount's:
-pub mod Rebuilt
 pub mod Sums
 pub mod Meaning
 pub mod Membership

@@ -24,11 +24,6 @@ onePass [] rs = rs
 onePass (a ∷ []) rs = bump (endKey a) rs
 onePass (a ∷ b ∷ p) rs = onePass (b ∷ p) (bump (childKey a b) (touch (endKey a) rs))
 
--- all that the rows count
-unfoldable pub sum : List Row → ℕ
-sum [] = 0
-sum (r ∷ rs) = r .count + sum rs
-
 -- ---- what would come in
 
 -- 1 for a key with no row that stands for the first time

@@ -2,10 +2,10 @@
 -- listed from then on, a count rises by what the new path counts and falls by what the leaving one counted; the image's look-up says the same. Then the
 -- law of look-ups. Assumes nothing.
 use mathlib.Core.Path.{_≡_, sym, ap₂, _∙_}
-use Prim.Native.Nat.{ℕ, _+_, _-_, _≤_, _<_}
+use Prim.Native.Nat.{ℕ, _+_, _-_}
 use native.Mathlib.Omega.{arith}
 use mathlib.Core.List.{List, [], _∷_, _++_, flatMap}
-use mathlib.Core.Option.{Option, some}
+use mathlib.Core.Option.{Option}
 use Rattle.priors.specs.Rows.{Row, keys, Ascends, look}
 use Rattle.book.specs.Path.{Steps, listedKeys, countedKeys}
 use Rattle.book.specs.Changes.{touchAll, bumpAll, leftKeys, addRows}
@@ -16,7 +16,7 @@ use Rattle.book.proofs.Passes.{leavingPath}
 use Rattle.book.proofs.ManyRows.{look-all, ascends-all}
 use Rattle.book.proofs.Occurrences.{counted-listed, occ-paths, occ-one}
 use Rattle.book.proofs.Window.{counted-step, counted-le}
-use Rattle.book.proofs.Image.{found-some, touched, bumped, faded, look-rows, ascends-rows}
+use Rattle.book.proofs.Image.{touched, bumped, faded, look-rows, ascends-rows}
 
 module _ (W : ℕ) (H : List Steps) (p : Steps) (j : ℕ) where
   -- after the new path's keys, and before any is taken away
@@ -33,14 +33,6 @@ module _ (W : ℕ) (H : List Steps) (p : Steps) (j : ℕ) where
       ≡ found (occurrences j (flatMap listedKeys H) + occurrences j (listedKeys p)) (counted W H j + occurrences j (countedKeys p) - occurrences j (leftKeys (leavingPath W H)))
   unfolding addRows
   look-added = rw (look-all, look-bumped, faded)
-
-  -- taking away never meets a missing key, nor a count that is too low
-  pub fade-meets : 0 < occurrences j (leftKeys (leavingPath W H))
-      → (look j (bumpAll (countedKeys p) (touchAll (listedKeys p) (rowsOf W H))) ≡ some (counted W H j + occurrences j (countedKeys p)))
-      × (occurrences j (leftKeys (leavingPath W H)) ≤ counted W H j + occurrences j (countedKeys p))
-  fade-meets h =
-      let s = counted-step W H p j in
-      (look-bumped ∙ found-some (occurrences j (flatMap listedKeys H) + occurrences j (listedKeys p)) _ (omega (arith, counted-listed j p, counted-le W H j)), omega arith)
 
 -- an add keeps the ascent, whatever leaves
 pub ascends-added : (p : Steps) (l : Option Steps) (rs : List Row) → Ascends 0 (keys rs) → Ascends 0 (keys (addRows p l rs))

@@ -1,22 +1,17 @@
--- How many rows there are at most (two for each step, less one for each path), what they count in all (one for each step of the window part), and how much one
--- of them counts at most. Assumes nothing.
+-- How many rows there are at most (two for each step, less one for each path), and how much one of them counts at most. Assumes nothing.
 use mathlib.Core.Path.{_≡_, refl, sym, ap, _∙_}
 use Prim.Native.Nat.{ℕ, zero, suc, _+_, _*_, _-_, _≤_}
 use native.Mathlib.Omega.{arith}
 use mathlib.Core.List.{List, [], _∷_, flatMap}
-use mathlib.Core.Option.{some}
 use mathlib.Core.Bool.{Bool, true, false, cond}
 use lib.Dec.{eqb}
 use lib.ListN.{length, drop, length-append, length-map}
-use Rattle.priors.specs.Rows.{Row, change}
+use Rattle.priors.specs.Rows.{Row}
 use Rattle.book.specs.Path.{Steps, listedKeys, countedKeys}
-use Rattle.book.specs.Changes.{changeAll, touchAll}
 use Rattle.book.specs.Recount.{occurrences, windowPart, counted, rowsOf, enter, enterAll, listing}
 use Rattle.book.specs.Figures.{total, AllWhole}
 use Rattle.priors.proofs.Orders.{Side, below, same, above, side}
-use Rattle.book.proofs.Passes.{sum}
 use Rattle.book.proofs.Image.{keys-rows}
-use Rattle.book.proofs.Rebuilt.{rows-rebuilt}
 
 -- ---- lengths of a path's keys
 
@@ -64,33 +59,6 @@ unfolding listing
 length-rows W H h =
     let n : length (rowsOf W H) ≡ length (listing H) = sym (length-map (rowsOf W H) (λ (r : Row). r .key)) ∙ ap length (keys-rows W H) in
     omega (arith, length-enterAll (flatMap listedKeys H) [], listed-total H h)
-
--- ---- what they count in all: a count for each step of the window part
-
-module _ (d : ℕ) (step : ℕ → ℕ) (adds : (c : ℕ) → step c ≡ c + d) where
-  sum-change : (k : ℕ) (rs : List Row) → sum (change (some d) step k rs) ≡ d + sum rs
-  unfolding sum change
-  sum-change k [] = refl
-  sum-change k (r ∷ rs) = go (side k (r .key)) (sum-change k rs)
-    where
-      go : Side k (r .key) → sum (change (some d) step k rs) ≡ d + sum rs → sum (change (some d) step k (r ∷ rs)) ≡ d + sum (r ∷ rs)
-      go (below l e) ih = rw e
-      go (same q e) ih = rw e (omega (arith, adds (r .count)))
-      go (above l e) ih = rw e (omega arith)
-
-  sum-all : (ks : List ℕ) (rs : List Row) → sum (changeAll (some d) step ks rs) ≡ length ks * d + sum rs
-  unfolding changeAll
-  sum-all [] rs = omega arith
-  sum-all (k ∷ ks) rs = omega (arith, sum-all ks (change (some d) step k rs), sum-change k rs)
-
-pub sum-rows : (W : ℕ) (H : List Steps) → sum (rowsOf W H) ≡ total length (windowPart W H)
-unfolding sum
-sum-rows W H =
-    let c : List ℕ = flatMap countedKeys (windowPart W H) in
-    let l : List ℕ = flatMap listedKeys H in
-    let n : length c ≡ total (λ p. length (countedKeys p)) (windowPart W H) = length-all countedKeys (windowPart W H) in
-    let steps : total (λ p. length (countedKeys p)) (windowPart W H) ≡ total length (windowPart W H) = simp length-counted in
-    rw rows-rebuilt (omega (arith, sum-all 1 (λ c. c + 1) (λ c. refl) c (touchAll l []), sum-all 0 (λ c. c) (λ c. omega arith) l []))
 
 -- ---- what one of them counts: at most 64 for each path
 

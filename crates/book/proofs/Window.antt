@@ -9,7 +9,7 @@ use native.Mathlib.Omega.{arith}
 use lib.Dec.{leb}
 use lib.ListN.{length, getD, drop, length-append, length-drop}
 use lib.Seq.{drop-cons, drop-append-le}
-use borrow.Author.Tests.{leb-true, leb-false, le-leb}
+use borrow.Author.Tests.{leb-true, leb-false}
 use Rattle.book.specs.Path.{Steps, listedKeys, countedKeys}
 use Rattle.book.specs.Changes.{leftKeys}
 use Rattle.book.specs.Recount.{occurrences, windowPart, sequenceLength, counted}
@@ -21,11 +21,6 @@ use Rattle.book.proofs.Occurrences.{occ-paths, occ-one, occ-drop, count
 abbrev pub left : Option Steps → List Steps
 left none = []
 left (some l) = l ∷ []
-
--- where H fills the window, the path that leaves is the first of the window part
-pub leaving-first : (w : ℕ) (H : List Steps) → suc w ≤ length H → (l : Steps) × (leavingPath (suc w) H ≡ some l) × (windowPart (suc w) H ≡ l ∷ drop (suc (length H - suc w)) H)
-unfolding leavingPath windowPart
-leaving-first w H h = (getD H (length H - suc w) [], rw (le-leb (suc w) (length H) h), drop-cons H (length H - suc w) [] (omega arith))
 
 pub window-step : (W : ℕ) (H : List Steps) (p : Steps) → left (leavingPath W H) ++ windowPart W (H ++ p ∷ []) ≡ windowPart W H ++ p ∷ []
 unfolding leavingPath windowPart

@@ -9,7 +9,7 @@ use mathlib.Core.List.{List, [], _∷_, _++_}
 use mathlib.Core.Option.{Option, none, some}
 use mathlib.Core.Bool.{Bool, true, false, cond}
 use lib.Dec.{ltb, leb·suc-suc}
-use lib.ListN.{length, getD, set, take, drop, take-append-drop}
+use lib.ListN.{length, getD, set, take, drop}
 use borrow.Author.Tests.{lt-ltb, le-ltb, eq-eqb, ne-eqb}
 use Rattle.priors.specs.Rows.{Row, row, look, front, change}
 use Rattle.priors.specs.Search.{blank, place, holds}
@@ -81,14 +81,3 @@ module _ (new : Option ℕ) (step : ℕ → ℕ) (k : ℕ) where
           ≡ cond b (r ∷ set rs i (row (getD rs i blank .key) (step (getD rs i blank .count)))) (r ∷ take i rs ++ front k new (drop i rs))
       into true = refl
       into false = refl
-
-  -- the key is there: its row is set
-  pub change-held : (rs : List Row) → holds rs (place rs k) k ≡ true → change new step k rs ≡ set rs (place rs k) (row (getD rs (place rs k) blank .key) (step (getD rs (place rs k) blank .count)))
-  change-held rs h = change-spot (spot k rs) ∙ rw h
-
-  -- it is missing: a row comes in at the place, or nothing changes
-  pub change-absent : (rs : List Row) → holds rs (place rs k) k ≡ false → change new step k rs ≡ take (place rs k) rs ++ front k new (drop (place rs k) rs)
-  change-absent rs h = change-spot (spot k rs) ∙ rw h
-
-pub change-passed : (step : ℕ → ℕ) (k : ℕ) (rs : List Row) → holds rs (place rs k) k ≡ false → change none step k rs ≡ rs
-change-passed step k rs h = change-absent none step k rs h ∙ take-append-drop (place rs k) rs

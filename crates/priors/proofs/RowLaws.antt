@@ -1,15 +1,15 @@
 -- What a change of one row leaves: what a look-up finds afterwards, the ascent, the length. Touch, bump and fade are three cases of one change, so each law
--- is proved once; the last part says them for the three. Since a look-up ends at the first row that is not below its key, just where a change is made, only
+-- is proved once; the last part says some of them for touch. Since a look-up ends at the first row that is not below its key, just where a change is made, only
 -- the law of the ascent itself asks that rows ascend. Assumes nothing.
-use mathlib.Core.Path.{_≡_, refl, sym, ap, _∙_}
-use Prim.Native.Nat.{ℕ, suc, _+_, _-_, _≤_, _<_}
+use mathlib.Core.Path.{_≡_, refl, sym, ap}
+use Prim.Native.Nat.{ℕ, suc, _+_, _≤_, _<_}
 use mathlib.Core.List.{List, [], _∷_}
 use mathlib.Core.Option.{Option, none, some}
 use native.Mathlib.Omega.{arith}
 use mathlib.Core.Bool.{cond}
 use lib.Dec.{eqb}
 use lib.ListN.{length}
-use Rattle.priors.specs.Rows.{Row, row, keys, Ascends, look, front, change, after, touch, bump, fade, afterTouch, afterBump, afterFade}
+use Rattle.priors.specs.Rows.{Row, row, keys, Ascends, look, front, change, after, touch, afterTouch}
 use Rattle.priors.proofs.Orders.{Side, below, same, above, side, compare-lt, compare-self, Alike, alike, unlike, compared}
 
 -- how many rows come in, by what a look-up finds before and what a missing key comes in with
@@ -112,7 +112,7 @@ module _ (new : Option ℕ) (step : ℕ → ℕ) (k : ℕ) where
   pub grows : (rs : List Row) → length rs ≤ length (change new step k rs)
   grows rs = omega (arith, length-change rs)
 
--- ---- the three changes
+-- ---- touching
 
 -- a key that has a row is listed already
 pub touch-found : (k c : ℕ) (rs : List Row) → look k rs ≡ some c → touch k rs ≡ rs
@@ -129,21 +129,5 @@ module _ (k : ℕ) (rs : List Row) where
   pub look-touch : look k (touch k rs) ≡ afterTouch (look k rs)
   look-touch = look-here (some 0) (λ c. c) k rs
 
-  pub look-bump : look k (bump k rs) ≡ afterBump (look k rs)
-  look-bump = look-here (some 1) (λ c. c + 1) k rs
-
-  pub look-fade : look k (fade k rs) ≡ afterFade (look k rs)
-  look-fade = look-here none (λ c. c - 1) k rs
-
   pub length-touch : length (touch k rs) ≡ length rs + gained (look k rs) (some 0)
   length-touch = length-change (some 0) (λ c. c) k rs
-
-  pub length-bump : length (bump k rs) ≡ length rs + gained (look k rs) (some 1)
-  length-bump = length-change (some 1) (λ c. c + 1) k rs
-
-  pub length-fade : length (fade k rs) ≡ length rs
-  length-fade = length-change none (λ c. c - 1) k rs ∙ go (look k rs)
-    where
-      go : (o : Option ℕ) → length rs + gained o none ≡ length rs
-      go none = omega arith
-      go (some c) = omega arith
