@@ -1,5 +1,5 @@
--- Figures of paths that name no keys: how often a transition stands in a path, whether a path ends at a node, how many steps there are; and the words in which
--- the laws of the recount speak of them. Assumes nothing.
+-- Figures of paths that name no keys: how often a transition stands in a path, and whether a path ends at a node. The recount's lists for readings (`RecountNodes`
+-- of divergence) and `Corollaries` are made of them. Then how many paths a window holds, what it is to be within the limits, and what it is to be listed. Assumes nothing.
 use Prim.Native.Nat.{ℕ, zero, suc, _+_, _^_, _<_, _≤_, min}
 use mathlib.Core.Path.{_≡_}
 use mathlib.Core.List.{List, [], _∷_, List·Memᴰ}

@@ -1,15 +1,16 @@
 -- Read in this order: `Limits` names the numbers of document 01; `Keys` and `Entries` say what an entry's bytes hold, `Path` what a path lists and counts,
--- `Form` what each call tests, `Changes` what an add does to the rows of a book, `Calls` what an opening and an add answer and leave, `Recount` what they are
--- held to, `Room` what 12's dry run looks at, `Figures` the words in which its laws speak, `Claims` the theorem over lists of calls, `Corollaries` what follows from it without the recount.
+-- `Figures` what is counted of paths with no keys named, `Form` what each call tests, `Changes` what an add does to the rows of a book, `Calls` what an opening and
+-- an add answer and leave, `Recount` what they are held to, `Room` what 12's dry run looks at, `Claims` the theorem over lists of calls, `Corollaries` what follows
+-- from it without the recount.
 pub mod Limits
 pub mod Keys
 pub mod Entries
 pub mod Path
+pub mod Figures
 pub mod Form
 pub mod Changes
 pub mod Calls
 pub mod Recount
 pub mod Room
-pub mod Figures
 pub mod Claims
 pub mod Corollaries

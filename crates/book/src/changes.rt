@@ -1,7 +1,6 @@
 // What an add does to the rows of a book, key by key: a key is listed, counts one more, or counts one less. The entries must ascend;
 // room is asked for only where an entry comes in.
-ghost use mathlib.Core.Path.{_≡_};
-ghost use Prim.Native.Nat.{_+_, _-_, _*_, _^_, _≤_, _<_};
+ghost use Prim.Native.Nat.{_-_, _*_, _^_, _≤_};
 ghost use lib.ListN.{length};
 ghost use Rattle.priors.specs.Rows.{keys, Ascends, touch, bump, fade};
 ghost use Rattle.book.specs.Keys.{keyValue};

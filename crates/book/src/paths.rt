@@ -1,7 +1,7 @@
 // A path's steps, added to a book in one pass and taken away again. A path is lent as bytes, 8 a step.
 ghost use mathlib.Core.Path.{_≡_};
 ghost use mathlib.Core.Bool.{true};
-ghost use Prim.Native.Nat.{_+_, _*_, _/_, _^_, _≤_, _<_};
+ghost use Prim.Native.Nat.{_*_, _^_, _≤_};
 ghost use lib.ListN.{length};
 ghost use Rattle.priors.specs.Rows.{keys, Ascends, touch, bump};
 ghost use Rattle.book.specs.Limits.{maxCount};

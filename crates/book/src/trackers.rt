@@ -102,7 +102,7 @@ impl Tracker {
     }
 
     // Adds a path that no test turns back.
-    pub fn add_within(mut self, book: &mut [u8], queue: &mut [u8], path: &[u8]) -> Tracker
+    fn add_within(mut self, book: &mut [u8], queue: &mut [u8], path: &[u8]) -> Tracker
         requires { ⌜ Ready self (now book) (now queue) (now path) ⌝ }
         ensures { λ r. ⌜ r ≡ stateAfter self (now (book .entry)) (now (queue .entry)) (now (path .entry)) ⌝ }
         ensures { λ r. ⌜ now (book .exit) ≡ bookAfter self (now (book .entry)) (now (queue .entry)) (now (path .entry)) ⌝ }

@@ -1,11 +1,12 @@
 // The rules for prior records, numbers 3 to 7, each over all records before the next. Links and counts are tested in every record,
-// reached or not; length and order along each chain that starts at a node. The work is at most 64 records for each node, a few times.
+// reached or not; length and order along each chain that starts at a node. The work is every node record five times, every child record
+// twice, and twice at most 64 records for each node.
 ghost use mathlib.Core.Path.{_≡_};
 ghost use mathlib.Core.Bool.{true};
-ghost use Prim.Native.Nat.{_+_, _*_, _/_, _≤_, _<_};
+ghost use Prim.Native.Nat.{_+_, _*_, _≤_};
 ghost use lib.Dec.{leb, ltb};
 ghost use lib.ListN.{length};
-ghost use Rattle.priors.specs.Limits.{maxNodes, maxChildren, maxChain, recordSize};
+ghost use Rattle.priors.specs.Limits.{maxChain, recordSize};
 ghost use Rattle.priors.specs.Refusals.{checkedNumber};
 ghost use Rattle.priors.specs.Priors.{records, recordCount, ascends, chainOf, wholeRecords, everyNode, everyChild, firstLinkFits, nextLinkFits, chainFits, chainAscends, countFits, totalFits, priorOfNode, total, priorsRefusal};
 use crate::records::RECORD_SIZE;

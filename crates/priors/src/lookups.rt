@@ -2,9 +2,9 @@
 // one wanted; and a prior's total.
 ghost use mathlib.Core.Path.{_≡_};
 ghost use mathlib.Core.Bool.{true};
-ghost use Prim.Native.Nat.{_+_, _*_, _≤_, _<_};
+ghost use Prim.Native.Nat.{_≤_};
 ghost use lib.ListN.{length};
-ghost use Rattle.priors.specs.Limits.{maxChain, recordSize};
+ghost use Rattle.priors.specs.Limits.{maxChain};
 ghost use Rattle.priors.specs.Rows.{look};
 ghost use Rattle.priors.specs.Priors.{records, recordCount, ascends, findRecord, chainOf, childrenOf, everyChild, nextLinkFits, priorOfNode, total};
 ghost use Rattle.priors.specs.Lookups.{nodeFound, childFound};

@@ -1,6 +1,6 @@
 // Where a call is turned back, and by which number. A missing child and a passed table end name the node.
 ghost use mathlib.Core.Path.{_≡_};
-ghost use Rattle.priors.specs.Refusals.{numberOf, checkedNumber};
+ghost use Rattle.priors.specs.Refusals.{numberOf};
 use crate::addresses::Address;
 
 pub enum Refusal {

@@ -1,8 +1,6 @@
 // The lent tables: G holds ln gamma at each whole number, D digamma. They have one length from 2 to 1,048,576, and every entry
 // from index 1 on lies within -2^40 to 2^40. Index 0 is never read.
 ghost use mathlib.Core.Path.{_≡_};
-ghost use mathlib.Core.Bool.{_&&_};
-ghost use lib.ListN.{length};
 ghost use Rattle.priors.specs.Refusals.{checkedNumber};
 ghost use Rattle.priors.specs.Tables.{within, entriesFit, lengthsFit, tablesRefusal};
 use crate::refusals::Checked;
