@@ -10,9 +10,10 @@ use lib.ListN.{length}
 use Rattle.book.specs.Path.{Steps, pathOf}
 use Rattle.book.specs.Calls.{unlessRefused, openBook, openQueue, addState, addBook, addQueue}
 use Rattle.book.specs.Recount.{occurrences, windowPart, listing}
-use Rattle.book.specs.Figures.{found, total, transitions, endings}
+use Rattle.book.specs.Figures.{total, transitions, endings}
 use Rattle.book.specs.Claims.{BookCall, opening, add, runs, bookStep, Recount, openRefusal, addRefusal, restarted, joined, recountStep, image}
 use Rattle.book.specs.Corollaries.{acceptedSince, windowSince, NeverNine, Told, Corollary, OpeningStartsAfresh, RefusedOpeningLeavesAll, RefusedAddLeavesAll, FormReadsNoOther}
+use Rattle.book.proofs.Passes.{found}
 use Rattle.book.proofs.Sums.{length-rows}
 use Rattle.book.proofs.Meaning.{look-ending, look-child, node-listed, child-listed-iff}
 use Rattle.book.proofs.BookImage.{length-image}

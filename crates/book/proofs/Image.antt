@@ -10,8 +10,8 @@ use Rattle.priors.specs.Rows.{Row, row, keys, Ascends, look, afterTouch, afterB
 use Rattle.book.specs.Path.{Steps, listedKeys}
 use Rattle.book.specs.Changes.{touchAll}
 use Rattle.book.specs.Recount.{occurrences, listing, counted, rowsOf}
-use Rattle.book.specs.Figures.{found}
 use Rattle.priors.proofs.Orders.{Side, below, same, above, side}
+use Rattle.book.proofs.Passes.{found}
 use Rattle.book.proofs.ManyRows.{times, look-all, ascends-all, keys-touches}
 
 -- ---- what many changes make of what a look-up found

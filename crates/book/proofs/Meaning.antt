@@ -17,8 +17,9 @@ use Rattle.priors.specs.Address.{lift, rank}
 use Rattle.book.specs.Keys.{keyOf, endKey, childKey}
 use Rattle.book.specs.Path.{Steps, listedKeys, countedKeys}
 use Rattle.book.specs.Recount.{occurrences, windowPart, counted, rowsOf}
-use Rattle.book.specs.Figures.{found, total, transitions, endings, Ranks, AllRanks, Listed, Somewhere}
+use Rattle.book.specs.Figures.{total, transitions, endings, Ranks, AllRanks, Listed, Somewhere}
 use Rattle.priors.proofs.Orders.{Alike, alike, unlike, compared}
+use Rattle.book.proofs.Passes.{found}
 use Rattle.book.proofs.Occurrences.{hit, occ-nil, occ-cons, occ-append}
 use Rattle.book.proofs.Image.{look-rows}
 

@@ -1,5 +1,5 @@
--- Definitions that only proofs need: the path that leaves, told from H alone; an add in one pass over a path; what an add would bring in; the form of a listing's keys.
--- Assumes nothing.
+-- Definitions that only proofs need: what is found of a listed key; the path that leaves, told from H alone; an add in one pass over a path; what an add would bring
+-- in; the form of a listing's keys. Assumes nothing.
 use Prim.Native.Nat.{ℕ, zero, suc, _+_, _-_, _<_}
 use mathlib.Core.Path.{_≡_}
 use mathlib.Core.Logic.{_⊎_}
@@ -12,6 +12,11 @@ use Rattle.priors.specs.Rows.{Row, look, touch, bump}
 use Rattle.book.specs.Keys.{endKey, childKey, nodeOf}
 use Rattle.book.specs.Path.{Steps}
 use Rattle.book.specs.Recount.{occurrences}
+
+-- what is found of a key that is listed n times: its count c, if n is not 0
+abbrev pub found : ℕ → ℕ → Option ℕ
+found zero c = none
+found (suc n) c = some c
 
 -- the path that leaves the window of W where one more path joins H: the oldest of the last W, if there are W
 unfoldable pub leavingPath : ℕ → List Steps → Option Steps

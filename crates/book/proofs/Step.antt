@@ -10,9 +10,8 @@ use Rattle.priors.specs.Rows.{Row, keys, Ascends, look}
 use Rattle.book.specs.Path.{Steps, listedKeys, countedKeys}
 use Rattle.book.specs.Changes.{touchAll, bumpAll, leftKeys, addRows}
 use Rattle.book.specs.Recount.{occurrences, counted, rowsOf}
-use Rattle.book.specs.Figures.{found}
 use Rattle.priors.proofs.Ext.{ext}
-use Rattle.book.proofs.Passes.{leavingPath}
+use Rattle.book.proofs.Passes.{found, leavingPath}
 use Rattle.book.proofs.ManyRows.{look-all, ascends-all}
 use Rattle.book.proofs.Occurrences.{counted-listed, occ-paths, occ-one}
 use Rattle.book.proofs.Window.{counted-step, counted-le}

@@ -3,7 +3,7 @@
 use Prim.Native.Nat.{ℕ, zero, suc, _+_, _^_, _<_, _≤_, min}
 use mathlib.Core.Path.{_≡_}
 use mathlib.Core.List.{List, [], _∷_, List·Memᴰ}
-use mathlib.Core.Option.{Option, none, some}
+use mathlib.Core.Option.{some}
 use mathlib.Core.Bool.{cond, _&&_}
 use lib.Dec.{eqb}
 use lib.ListN.{length}
@@ -55,11 +55,6 @@ abbrev pub AllWhole : List Steps → Type 0
 AllWhole = All Whole
 
 -- ---- what is listed
-
--- what is found of a key that is listed n times: its count c, if n is not 0
-abbrev pub found : ℕ → ℕ → Option ℕ
-found zero c = none
-found (suc n) c = some c
 
 -- k has a row
 abbrev pub Listed : ℕ → List Row → Type 0
