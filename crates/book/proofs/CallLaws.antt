@@ -6,7 +6,7 @@ use Prim.Native.Nat.{ℕ, suc, _+_, _*_, _/_, _%_, _≤_, _<_}
 use native.Mathlib.Nat.{mod-lt}
 use native.Mathlib.Omega.{arith}
 use mathlib.Core.List.{List, _++_}
-use mathlib.Core.Option.{none, some}
+use mathlib.Core.Option.{Option, none, some}
 use mathlib.Core.Bool.{Bool, true, false, cond, _&&_}
 use lib.Dec.{leb, eqb}
 use lib.ListN.{length, take, drop, length-take, length-drop}
@@ -15,12 +15,13 @@ use Rattle.priors.specs.Word.{word, store}
 use Rattle.priors.specs.Rows.{Row, keys, Ascends}
 use Rattle.priors.proofs.Ranks.{Bytes}
 use Rattle.book.specs.declared.trackers.Tracker.{Tracker}
+use Rattle.book.specs.declared.trackers.Added.{Added}
 use Rattle.book.specs.Limits.{maxWindow, maxAccepted}
 use Rattle.book.specs.Entries.{rows, bytesOf, Rewritten}
 use Rattle.book.specs.Path.{listedKeys, countedKeys, pathOf, wholePath}
 use Rattle.book.specs.Form.{capacity, bookFits, queueFits, stateFits, formed, lengthsFit, filled, inForm}
 use Rattle.book.specs.Changes.{changeAll, touchAll, bumpAll, fadeAll, leftKeys, addRows, EndingsListed}
-use Rattle.book.specs.Calls.{zeros, fresh, openNumber, openState, openBook, openQueue, addNumber, addState, addBook, addQueue, stateAfter, bookAfter, queueWith, listedRows, leaving, nextPlace, stepsAt, placeBytes, rowsAfter, Leaves, Ready}
+use Rattle.book.specs.Calls.{BookAnswer, addedNumber, addedState, addedAnswer, zeros, fresh, openNumber, openState, openBook, openQueue, openAnswer, addNumber, addState, addBook, addQueue, addAnswer, stateAfter, bookAfter, queueWith, listedRows, leaving, nextPlace, stepsAt, placeBytes, rowsAfter, Leaves, Ready}
 use Rattle.book.proofs.EntryLaws.{length-rows, length-bytesOf, rows-forth}
 use Rattle.book.proofs.ManyRows.{ascends-all}
 use Rattle.book.proofs.Lengths.{length-half}
@@ -32,15 +33,15 @@ use Rattle.book.proofs.StepLaws.{part-steps, path-even, path-high}
 
 module _ (window : ℕ) (book queue : List ℕ) where
   pub open-refused : (n : ℕ) → openNumber window book queue ≡ suc n
-      → (suc n ≡ openNumber window book queue) × ((none ≡ openState window book queue) × ((book ≡ openBook window book queue) × (queue ≡ openQueue window book queue)))
+      → (record { number = suc n; state = none } ≡ openAnswer window book queue) × ((book ≡ openBook window book queue) × (queue ≡ openQueue window book queue))
   unfolding openState openBook openQueue
-  open-refused n e = (sym e, (rw e, (rw e, rw e)))
+  open-refused n e = (rw e, (rw e, rw e))
 
   pub open-taken : openNumber window book queue ≡ 0
-      → (0 ≡ openNumber window book queue)
-      × ((some (fresh window) ≡ openState window book queue) × ((zeros (length book) ≡ openBook window book queue) × (zeros (length queue) ≡ openQueue window book queue)))
+      → (record { number = 0; state = some (fresh window) } ≡ openAnswer window book queue)
+      × ((zeros (length book) ≡ openBook window book queue) × (zeros (length queue) ≡ openQueue window book queue))
   unfolding openState openBook openQueue
-  open-taken e = (sym e, (rw e, (rw e, rw e)))
+  open-taken e = (rw e, (rw e, rw e))
 
   pub window-over : 1024 < window → openNumber window book queue ≡ 8
   unfolding openNumber
@@ -59,15 +60,15 @@ module _ (window : ℕ) (book queue : List ℕ) where
 
 module _ (t : Tracker) (book queue path : List ℕ) where
   pub add-refused : (n : ℕ) → addNumber t book queue path ≡ suc n
-      → (suc n ≡ addNumber t book queue path) × ((t ≡ addState t book queue path) × ((book ≡ addBook t book queue path) × (queue ≡ addQueue t book queue path)))
+      → (record { number = suc n; state = some t } ≡ addAnswer t book queue path) × ((book ≡ addBook t book queue path) × (queue ≡ addQueue t book queue path))
   unfolding addState addBook addQueue
-  add-refused n e = (sym e, (rw e, (rw e, rw e)))
+  add-refused n e = (rw e, (rw e, rw e))
 
   pub add-taken : addNumber t book queue path ≡ 0
-      → (0 ≡ addNumber t book queue path)
-      × ((stateAfter t book queue path ≡ addState t book queue path) × ((bookAfter t book queue path ≡ addBook t book queue path) × (queueWith t queue path ≡ addQueue t book queue path)))
+      → (record { number = 0; state = some (stateAfter t book queue path) } ≡ addAnswer t book queue path)
+      × ((bookAfter t book queue path ≡ addBook t book queue path) × (queueWith t queue path ≡ addQueue t book queue path))
   unfolding addState addBook addQueue
-  add-taken e = (sym e, (rw e, (rw e, rw e)))
+  add-taken e = (rw e, (rw e, rw e))
 
   pub out-of-form : inForm t book queue ≡ false → addNumber t book queue path ≡ 9
   unfolding addNumber
@@ -91,6 +92,18 @@ module _ (t : Tracker) (book queue path : List ℕ) where
         pub nothing-refused : leb (length (listedRows t book path)) (capacity book) ≡ true → addNumber t book queue path ≡ 0
         unfolding addNumber
         nothing-refused e = rw (formed, whole, lt-leb maxAccepted (t .accepted) more, le-ltb (capacity book) (length (listedRows t book path)) (leb-true (length (listedRows t book path)) (capacity book) e))
+
+  -- the parts of the answer
+  module _ (a : Added) (e : addedAnswer a ≡ addAnswer t book queue path) where
+    pub added-number : addedNumber a ≡ addNumber t book queue path
+    added-number = ap (λ (x : BookAnswer). x .number) e
+
+    pub added-state : addedState a ≡ addState t book queue path
+    added-state = ap (λ (x : BookAnswer). state-or (x .state)) e
+      where
+        state-or : Option Tracker → Tracker
+        state-or none = t
+        state-or (some s) = s
 
 -- ---- what the form tells
 

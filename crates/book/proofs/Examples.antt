@@ -11,9 +11,9 @@ use Rattle.book.specs.Entries.{keyAt, rowAt, rows, rowBytes, bytesOf}
 use Rattle.book.specs.Path.{stepsOf, wholePath, listedKeys, countedKeys}
 use Rattle.book.specs.Form.{bookFits, queueFits, plain, follows, formedAfter, formed, lengthsFit, stateFits, inForm}
 use Rattle.book.specs.Changes.{changeAll, addRows}
-use Rattle.book.specs.Calls.{fresh, openNumber, openState, openBook, openQueue, leaving, addNumber, rowsAfter, addState, stateAfter, addBook, bookAfter, placeBytes, queueWith, addQueue}
+use Rattle.book.specs.Calls.{BookAnswer, fresh, openNumber, openState, openBook, openQueue, leaving, addNumber, rowsAfter, addState, stateAfter, addBook, bookAfter, placeBytes, queueWith, addQueue}
 use Rattle.book.specs.Recount.{enter, enterAll, listing}
-use Rattle.book.specs.Claims.{BookCall, opening, add, BookAnswer, runs, Machine, bookStep, recountStep, openRefusal, addRefusal, restarted}
+use Rattle.book.specs.Claims.{BookCall, opening, add, runs, Machine, bookStep, recountStep, openRefusal, addRefusal, restarted}
 use Rattle.book.specs.Corollaries.{entriesOf}
 
 abbrev high : List ℕ

@@ -23,7 +23,12 @@ use Rattle.book.specs.Changes.{touchAll, addRows, CountsUpTo, EndingsLis
 abbrev pub zeros : ℕ → List ℕ
 zeros n = replicate n 0
 
--- ---- answers: the number, and the state that comes back
+-- ---- answers
+
+-- the refusal's number, 0 for none, and the state that comes back; a refused opening gives none
+pub record BookAnswer : Type 0 where
+  pub number : ℕ
+  pub state : Option Tracker
 
 abbrev pub openedNumber : Opened → ℕ
 openedNumber (Fresh t) = 0
@@ -33,6 +38,9 @@ abbrev pub openedState : Opened → Option Tracker
 openedState (Fresh t) = some t
 openedState (NotOpened r) = none
 
+abbrev pub openedAnswer : Opened → BookAnswer
+openedAnswer a = record { number = openedNumber a; state = openedState a }
+
 abbrev pub addedNumber : Added → ℕ
 addedNumber (Taken t) = 0
 addedNumber (NotAdded r t) = numberOf r
@@ -40,6 +48,9 @@ addedNumber (NotAdded r t) = numberOf r
 abbrev pub addedState : Added → Tracker
 addedState (Taken t) = t
 addedState (NotAdded r t) = t
+
+abbrev pub addedAnswer : Added → BookAnswer
+addedAnswer a = record { number = addedNumber a; state = some (addedState a) }
 
 -- x where nothing is refused, else y
 abbrev pub unlessRefused {ℓ} : {X : Type ℓ} → ℕ → X → X → X
@@ -56,6 +67,10 @@ fresh window = record { window = window; used = 0; accepted = 0 }
 
 unfoldable pub openState : ℕ → List ℕ → List ℕ → Option Tracker
 openState window book queue = unlessRefused (openNumber window book queue) (some (fresh window)) none
+
+-- what an opening answers
+abbrev pub openAnswer : ℕ → List ℕ → List ℕ → BookAnswer
+openAnswer window book queue = record { number = openNumber window book queue; state = openState window book queue }
 
 -- the lent book and the lent queue afterwards
 unfoldable pub openBook : ℕ → List ℕ → List ℕ → List ℕ
@@ -99,6 +114,10 @@ stateAfter t book queue path = record { window = t .window; used = length (rowsA
 
 unfoldable pub addState : Tracker → List ℕ → List ℕ → List ℕ → Tracker
 addState t book queue path = unlessRefused (addNumber t book queue path) (stateAfter t book queue path) t
+
+-- what an add answers
+abbrev pub addAnswer : Tracker → List ℕ → List ℕ → List ℕ → BookAnswer
+addAnswer t book queue path = record { number = addNumber t book queue path; state = some (addState t book queue path) }
 
 -- the book with the path in it: the entries, and the bytes behind them as they were
 unfoldable pub bookAfter : Tracker → List ℕ → List ℕ → List ℕ → List ℕ

@@ -10,21 +10,16 @@ use lib.Dec.{ltb, leb, eqb}
 use lib.ListN.{length}
 use Rattle.book.specs.declared.trackers.Tracker.{Tracker}
 use Rattle.book.specs.Path.{Steps, pathOf}
-use Rattle.book.specs.Calls.{unlessRefused, openNumber, openState, openBook, openQueue, addNumber, addState, addBook, addQueue}
+use Rattle.book.specs.Calls.{BookAnswer, unlessRefused, openState, openBook, openQueue, openAnswer, addState, addBook, addQueue, addAnswer}
 use Rattle.book.specs.Recount.{listing, bookImage, queueImage}
 use Rattle.book.specs.Figures.{All}
 
--- ---- calls and answers
+-- ---- calls
 
 -- an opening is lent a book and a queue of its own, whatever they hold; an add is lent what the calls since the last accepted opening left
 pub data BookCall : Type 0 where
   opening : (window : ℕ) (book queue : List ℕ) → BookCall
   add : (path : List ℕ) → BookCall
-
--- the refusal's number, 0 for none, and the state that comes back; a refused opening gives none
-pub record BookAnswer : Type 0 where
-  pub number : ℕ
-  pub state : Option Tracker
 
 -- the answers to calls of any kind, one after another, and what the last one leaves
 unfoldable pub runs : {Call Answer State : Type 0} → (State → Call → Answer × State) → State → List Call → List Answer × State
@@ -45,11 +40,11 @@ reopened (some t) book queue m = record { state = t; book = book; queue = queue 
 
 unfoldable pub bookStep : Machine → BookCall → BookAnswer × Machine
 bookStep m (opening window book queue) = (
-  record { number = openNumber window book queue; state = openState window book queue },
+  openAnswer window book queue,
   reopened (openState window book queue) (openBook window book queue) (openQueue window book queue) m,
 )
 bookStep m (add path) = (
-  record { number = addNumber (m .state) (m .book) (m .queue) path; state = some (addState (m .state) (m .book) (m .queue) path) },
+  addAnswer (m .state) (m .book) (m .queue) path,
   record {
     state = addState (m .state) (m .book) (m .queue) path;
     book = addBook (m .state) (m .book) (m .queue) path;

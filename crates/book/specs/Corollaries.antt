@@ -14,10 +14,10 @@ use Rattle.book.specs.Keys.{endKey, childKey}
 use Rattle.book.specs.Entries.{rows}
 use Rattle.book.specs.Path.{Steps, pathOf}
 use Rattle.book.specs.Form.{filled, inForm}
-use Rattle.book.specs.Calls.{zeros, unlessRefused, fresh, openNumber, openBook, openQueue, addNumber}
+use Rattle.book.specs.Calls.{BookAnswer, zeros, unlessRefused, fresh, openNumber, openBook, openQueue, addNumber}
 use Rattle.book.specs.Recount.{occurrences, windowPart}
 use Rattle.book.specs.Figures.{All, total, transitions, endings, Listed, Somewhere}
-use Rattle.book.specs.Claims.{BookCall, opening, add, BookAnswer, Machine, runs, bookStep, InBytes}
+use Rattle.book.specs.Claims.{BookCall, opening, add, Machine, runs, bookStep, InBytes}
 
 -- ---- what was accepted, told from calls and answers
 

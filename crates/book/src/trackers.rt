@@ -8,7 +8,7 @@ ghost use Rattle.book.specs.Entries.{rows, Rewritten};
 ghost use Rattle.book.specs.Changes.{fadeAll, leftKeys};
 ghost use Rattle.book.specs.Figures.{inWindow};
 ghost use Rattle.book.specs.Form.{inForm};
-ghost use Rattle.book.specs.Calls.{openedNumber, openedState, addedNumber, addedState, openNumber, openState, openBook, openQueue, addNumber, addState, addBook, addQueue, nextPlace, leaving, queueWith, stateAfter, bookAfter, Ready, Leaves};
+ghost use Rattle.book.specs.Calls.{openedAnswer, addedAnswer, openAnswer, openBook, openQueue, addAnswer, addBook, addQueue, nextPlace, leaving, queueWith, stateAfter, bookAfter, Ready, Leaves};
 use crate::form::book_fits;
 use crate::form::in_form;
 use crate::form::queue_fits;
@@ -45,8 +45,7 @@ pub enum Added {
 impl Tracker {
     // Opens a tracker: book and queue are zeroed to their ends. 8 for a window over 1,024, 9 for what is lent.
     pub fn open(window: u32, book: &mut [u8], queue: &mut [u8]) -> Opened
-        ensures { λ r. ⌜ openedNumber r ≡ openNumber window (now (book .entry)) (now (queue .entry)) ⌝ }
-        ensures { λ r. ⌜ openedState r ≡ openState window (now (book .entry)) (now (queue .entry)) ⌝ }
+        ensures { λ r. ⌜ openedAnswer r ≡ openAnswer window (now (book .entry)) (now (queue .entry)) ⌝ }
         ensures { λ r. ⌜ now (book .exit) ≡ openBook window (now (book .entry)) (now (queue .entry)) ⌝ }
         ensures { λ r. ⌜ now (queue .exit) ≡ openQueue window (now (book .entry)) (now (queue .entry)) ⌝ }
     {
@@ -70,8 +69,7 @@ impl Tracker {
 
     // Adds a path and takes the oldest past the window away: 9 for the form, 10 for the path, 11 and 12 where it is one too many.
     pub fn add_path(mut self, book: &mut [u8], queue: &mut [u8], path: &[u8]) -> Added
-        ensures { λ r. ⌜ addedNumber r ≡ addNumber self (now (book .entry)) (now (queue .entry)) (now (path .entry)) ⌝ }
-        ensures { λ r. ⌜ addedState r ≡ addState self (now (book .entry)) (now (queue .entry)) (now (path .entry)) ⌝ }
+        ensures { λ r. ⌜ addedAnswer r ≡ addAnswer self (now (book .entry)) (now (queue .entry)) (now (path .entry)) ⌝ }
         ensures { λ r. ⌜ now (book .exit) ≡ addBook self (now (book .entry)) (now (queue .entry)) (now (path .entry)) ⌝ }
         ensures { λ r. ⌜ now (queue .exit) ≡ addQueue self (now (book .entry)) (now (queue .entry)) (now (path .entry)) ⌝ }
     {
@@ -84,8 +82,7 @@ impl Tracker {
     // The same behind its form test.
     pub fn add_formed(mut self, book: &mut [u8], queue: &mut [u8], path: &[u8]) -> Added
         requires { ⌜ inForm self (now book) (now queue) ≡ true ⌝ }
-        ensures { λ r. ⌜ addedNumber r ≡ addNumber self (now (book .entry)) (now (queue .entry)) (now (path .entry)) ⌝ }
-        ensures { λ r. ⌜ addedState r ≡ addState self (now (book .entry)) (now (queue .entry)) (now (path .entry)) ⌝ }
+        ensures { λ r. ⌜ addedAnswer r ≡ addAnswer self (now (book .entry)) (now (queue .entry)) (now (path .entry)) ⌝ }
         ensures { λ r. ⌜ now (book .exit) ≡ addBook self (now (book .entry)) (now (queue .entry)) (now (path .entry)) ⌝ }
         ensures { λ r. ⌜ now (queue .exit) ≡ addQueue self (now (book .entry)) (now (queue .entry)) (now (path .entry)) ⌝ }
     {

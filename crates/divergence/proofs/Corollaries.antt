@@ -4,9 +4,10 @@ use mathlib.Core.Path.{_≡_, refl, sym, ap, _∙_}
 use Prim.Native.Nat.{ℕ}
 use mathlib.Core.List.{List, [], _∷_}
 use Rattle.book.specs.Path.{Steps}
+use Rattle.book.specs.Calls.{BookAnswer}
 use Rattle.book.specs.Recount.{sequenceLength}
 use Rattle.book.specs.Figures.{All}
-use Rattle.book.specs.Claims.{BookCall, opening, add, BookAnswer, Machine, bookStep, Recount, restarted, recountStep, InBytes, runs}
+use Rattle.book.specs.Claims.{BookCall, opening, add, Machine, bookStep, Recount, restarted, recountStep, InBytes, runs}
 use Rattle.book.specs.Corollaries.{acceptedSince, windowSince}
 use Rattle.book.proofs.RefusalLaws.{open-number}
 use Rattle.book.proofs.Claimed as Book

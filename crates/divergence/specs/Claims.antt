@@ -8,9 +8,10 @@ use lib.IntN.{ℤ}
 use lib.ListN.{length}
 use lib.Ieee.{Float}
 use Rattle.priors.specs.Address.{rankOf}
+use Rattle.book.specs.Calls.{BookAnswer}
 use Rattle.book.specs.Recount.{sequenceLength}
 use Rattle.book.specs.Figures.{All}
-use Rattle.book.specs.Claims.{BookCall, opening, BookAnswer, Machine, bookStep, Recount, openRefusal, recountStep, image, InBytes, runs}
+use Rattle.book.specs.Claims.{BookCall, opening, Machine, bookStep, Recount, openRefusal, recountStep, image, InBytes, runs}
 use Rattle.divergence.specs.Nodes.{Node}
 use Rattle.divergence.specs.RecountNodes.{recountNodes}
 use Rattle.divergence.specs.Readings.{Reading, Statistics, formRefusal, nodesOf, sequenceLen, room, probReading, evidenceReading, vectorAddresses, vectorFigures, klReading, allReading, allAddresses, allFigures, statsReading}

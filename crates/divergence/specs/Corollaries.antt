@@ -4,10 +4,10 @@ use Prim.Native.Nat.{ℕ}
 use mathlib.Core.Path.{_≡_}
 use mathlib.Core.List.{List, [], _∷_}
 use lib.Ieee.{Float}
-use Rattle.book.specs.Calls.{openNumber}
+use Rattle.book.specs.Calls.{BookAnswer, openNumber}
 use Rattle.book.specs.Recount.{sequenceLength}
 use Rattle.book.specs.Figures.{All}
-use Rattle.book.specs.Claims.{BookCall, opening, add, BookAnswer, Machine, bookStep, runs}
+use Rattle.book.specs.Claims.{BookCall, opening, add, Machine, bookStep, runs}
 use Rattle.book.specs.Corollaries.{acceptedSince, windowSince}
 use Rattle.divergence.specs.Nodes.{Node}
 use Rattle.divergence.specs.RecountNodes.{recountNodes}

@@ -1,7 +1,6 @@
 -- The opening answers and leaves what the definitions say, and its state is told.
 use mathlib.Core.Path.{ap, _∙_}
-use mathlib.Core.Option.{Option}
-use Rattle.book.specs.declared.trackers.Tracker.{Tracker}
+use Rattle.book.specs.Calls.{BookAnswer}
 use Rattle.exports.specs.Outputs.{numbersOr}
 use borrow.Author.Needs.{needs}
 use Rattle.exports.proofs.trackers.teakpool_open.Statement.{statement}
@@ -24,12 +23,12 @@ returns c =
     let opening = c .before .before .before .before .before .before in
     let start = opening .before .before .before .before .before in
     let said = opening .open .ensures in (
-      c .tell-opened .ensures .0 ∙ said .0,
+      c .tell-opened .ensures .0 ∙ ap (λ (a : BookAnswer). a .number) (said .0),
       (
-        said .1 .1 .0,
+        said .1 .0,
         (
-          said .1 .1 .1,
-          c .tell-opened .ensures .1 ∙ ap (λ (t : Option Tracker). numbersOr t (start .args .state .now)) (said .1 .0),
+          said .1 .1,
+          c .tell-opened .ensures .1 ∙ ap (λ (a : BookAnswer). numbersOr (a .state) (start .args .state .now)) (said .0),
         ),
       ),
     )

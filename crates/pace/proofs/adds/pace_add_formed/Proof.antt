@@ -2,7 +2,8 @@
 use mathlib.Core.Path.{_≡_, ap, _∙_}
 use Rattle.book.specs.declared.trackers.Tracker.{Tracker}
 use Rattle.book.specs.Form.{inForm}
-use Rattle.book.specs.Calls.{addNumber, addState, addBook, addQueue}
+use Rattle.book.specs.Calls.{addNumber, addState, addBook, addQueue, addAnswer}
+use Rattle.book.proofs.CallLaws.{added-number, added-state}
 use Rattle.exports.specs.Outputs.{trackerOf}
 use Rattle.exports.proofs.AnswerLaws.{add-left}
 use borrow.Author.Needs.{needs}
@@ -38,15 +39,17 @@ returns c =
     let path = start .args .path .now in
     let t = made .tracker-of .ensures in
     let said = add .add-formed .ensures in
-    let number = said .0 ∙ ap (λ (t : Tracker). addNumber t book queue path) t in
-    let after = said .1 .0 ∙ ap (λ (t : Tracker). addState t book queue path) t in (
+    let result = add .add-formed .result in
+    let answer = said .0 ∙ ap (λ (t : Tracker). addAnswer t book queue path) t in
+    let number = added-number (trackerOf state) book queue path result answer in
+    let after = added-state (trackerOf state) book queue path result answer in (
       c .tell-added .ensures .0 ∙ number,
       (
-        said .1 .1 .0 ∙ ap (λ (t : Tracker). addBook t book queue path) t,
+        said .1 .0 ∙ ap (λ (t : Tracker). addBook t book queue path) t,
         (
-          said .1 .1 .1 ∙ ap (λ (t : Tracker). addQueue t book queue path) t,
+          said .1 .1 ∙ ap (λ (t : Tracker). addQueue t book queue path) t,
           c .tell-added .ensures .1
-              ∙ add-left (add .add-formed .result) (addNumber (trackerOf state) book queue path) (addState (trackerOf state) book queue path) state number after,
+              ∙ add-left result (addNumber (trackerOf state) book queue path) (addState (trackerOf state) book queue path) state number after,
         ),
       ),
     )
