@@ -10,7 +10,7 @@ use mathlib.Core.Option.{Option, none, some}
 use mathlib.Core.Bool.{Bool, true, false, cond, _&&_}
 use lib.Dec.{leb, eqb}
 use lib.ListN.{length, take, drop, length-take, length-drop}
-use borrow.Author.Tests.{leb-true, leb-false, le-leb, lt-leb, lt-ltb, le-ltb}
+use borrow.Author.Tests.{leb-true, le-leb, lt-leb, lt-ltb, le-ltb}
 use Rattle.priors.specs.Word.{word, store}
 use Rattle.priors.specs.Rows.{Row, keys, Ascends}
 use Rattle.priors.proofs.Ranks.{Bytes}
@@ -45,16 +45,16 @@ module _ (window : ℕ) (book queue : List ℕ) where
 
   pub window-over : 1024 < window → openNumber window book queue ≡ 8
   unfolding openNumber
-  window-over h = rw (lt-ltb 1024 window h)
+  window-over h = rw (lt-leb window 1024 h)
 
   module _ (h : window ≤ 1024) where
     pub lent-wrong : bookFits book && queueFits window queue ≡ false → openNumber window book queue ≡ 9
     unfolding openNumber
-    lent-wrong e = rw (le-ltb 1024 window h, e)
+    lent-wrong e = rw (le-leb window 1024 h, e)
 
     pub lent-right : bookFits book && queueFits window queue ≡ true → openNumber window book queue ≡ 0
     unfolding openNumber
-    lent-right e = rw (le-ltb 1024 window h, e)
+    lent-right e = rw (le-leb window 1024 h, e)
 
 -- ---- an add
 
@@ -82,16 +82,16 @@ module _ (t : Tracker) (book queue path : List ℕ) where
     module _ (whole : wholePath path ≡ true) where
       pub paths-full : maxAccepted ≤ t .accepted → addNumber t book queue path ≡ 11
       unfolding addNumber
-      paths-full h = rw (formed, whole, le-leb maxAccepted (t .accepted) h)
+      paths-full h = rw (formed, whole, le-ltb (t .accepted) maxAccepted h)
 
       module _ (more : t .accepted < maxAccepted) where
         pub book-full : leb (length (listedRows t book path)) (capacity book) ≡ false → addNumber t book queue path ≡ 12
         unfolding addNumber
-        book-full e = rw (formed, whole, lt-leb maxAccepted (t .accepted) more, lt-ltb (capacity book) (length (listedRows t book path)) (leb-false (length (listedRows t book path)) (capacity book) e))
+        book-full e = rw (formed, whole, lt-ltb (t .accepted) maxAccepted more, e)
 
         pub nothing-refused : leb (length (listedRows t book path)) (capacity book) ≡ true → addNumber t book queue path ≡ 0
         unfolding addNumber
-        nothing-refused e = rw (formed, whole, lt-leb maxAccepted (t .accepted) more, le-ltb (capacity book) (length (listedRows t book path)) (leb-true (length (listedRows t book path)) (capacity book) e))
+        nothing-refused e = rw (formed, whole, lt-ltb (t .accepted) maxAccepted more, e)
 
   -- the parts of the answer
   module _ (a : Added) (e : addedAnswer a ≡ addAnswer t book queue path) where

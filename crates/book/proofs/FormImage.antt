@@ -14,7 +14,6 @@ use Rattle.book.specs.Changes.{touchAll}
 use Rattle.book.specs.Calls.{addNumber}
 use Rattle.book.specs.Recount.{listing, rowsOf, bookImage, queueImage}
 use Rattle.book.specs.Claims.{Recount, addRefusal, image}
-use Rattle.priors.proofs.Tests.{not-cond, ltb-not, leb-not}
 use Rattle.book.proofs.QueueImage.{length-queue, lengths-fit}
 use Rattle.book.proofs.BookImage.{length-listing, length-book, rows-image, formed-image}
 use Rattle.book.proofs.Kept.{Kept}
@@ -48,5 +47,4 @@ module _ (r : Recount) (k : Kept r) where
       let p : Steps = pathOf path in
       let listed : length (touchAll (listedKeys p) (rows (bookImage (r .window) (r .paths) (r .bookSize)) (length (listing (r .paths))))) ≡ length (listing (r .paths ++ p ∷ [])) =
       ap (λ (rs : List Row). length (touchAll (listedKeys p) rs)) rows-are ∙ length-listing (r .window) (r .paths) p in
-      rw (in-form, book-size, listed, path-fits path, leb-not 16777216 (length (r .paths)), ltb-not (r .bookSize / 24) (length (listing (r .paths ++ p ∷ []))))
-      (simp not-cond)
+      rw (in-form, book-size, listed, path-fits path)

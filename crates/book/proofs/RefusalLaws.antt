@@ -11,7 +11,7 @@ use Rattle.book.specs.Path.{wholePath}
 use Rattle.book.specs.Form.{bookFits, queueFits}
 use Rattle.book.specs.Calls.{openNumber}
 use Rattle.book.specs.Claims.{openRefusal}
-use Rattle.priors.proofs.Tests.{both, answers-same, not-cond, ltb-not}
+use Rattle.priors.proofs.Tests.{both, answers-same}
 
 pub book-fits : (book : List ℕ) → bookFits book ≡ leb 24 (length book) && (eqb (length book % 24) 0 && leb (length book) (24 * 16384))
 unfolding bookFits
@@ -63,4 +63,4 @@ path-fits path = answers-same _ _ there back
 
 pub open-number : (w : ℕ) (book queue : List ℕ) → openNumber w book queue ≡ openRefusal w (length book) (length queue)
 unfolding openNumber openRefusal queueFits
-open-number w book queue = rw (ltb-not 1024 w, book-fits book) (not-cond (leb w 1024) 8 _)
+open-number w book queue = rw (book-fits book)

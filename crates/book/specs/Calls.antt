@@ -1,13 +1,14 @@
 -- What an opening and an add answer, and what they leave in the lent book and queue. A number is a refusal's; 0 is none. Assumes nothing.
 use mathlib.Core.Path.{_≡_}
 use Prim.Native.Nat.{ℕ, zero, suc, _+_, _-_, _*_, _%_, _/_, _≤_, _<_}
-use mathlib.Core.Bool.{true, cond, not, _&&_}
-use mathlib.Core.List.{List, _++_}
+use mathlib.Core.Bool.{true, cond, _&&_}
+use mathlib.Core.List.{List, [], _∷_, _++_}
 use mathlib.Core.Option.{Option, none, some}
 use lib.Dec.{ltb, leb}
 use lib.ListN.{length, drop, replicate}
 use Rattle.priors.specs.Word.{word, wordBytes, store}
 use Rattle.priors.specs.Rows.{Row, keys, Ascends}
+use Rattle.priors.specs.Rules.{rule, firstBroken}
 use Rattle.priors.specs.Refusals.{numberOf}
 use Rattle.book.specs.declared.trackers.Tracker.{Tracker}
 use Rattle.book.specs.declared.trackers.Opened.{Opened}
@@ -60,7 +61,7 @@ unlessRefused (suc n) x y = y
 -- ---- an opening
 
 unfoldable pub openNumber : ℕ → List ℕ → List ℕ → ℕ
-openNumber window book queue = cond (ltb maxWindow window) 8 (cond (bookFits book && queueFits window queue) 0 9)
+openNumber window book queue = firstBroken (rule 8 (leb window maxWindow) ∷ rule 9 (bookFits book && queueFits window queue) ∷ [])
 
 abbrev pub fresh : ℕ → Tracker
 fresh window = record { window = window; used = 0; accepted = 0 }
@@ -99,10 +100,12 @@ listedRows t book path = touchAll (listedKeys (pathOf path)) (rows book (t .used
 
 unfoldable pub addNumber : Tracker → List ℕ → List ℕ → List ℕ → ℕ
 addNumber t book queue path =
-    cond (not (inForm t book queue)) 9
-    (cond (not (wholePath path)) 10
-    (cond (leb maxAccepted (t .accepted)) 11
-    (cond (ltb (capacity book) (length (listedRows t book path))) 12 0)))
+    firstBroken
+    (rule 9 (inForm t book queue)
+    ∷ rule 10 (wholePath path)
+    ∷ rule 11 (ltb (t .accepted) maxAccepted)
+    ∷ rule 12 (leb (length (listedRows t book path)) (capacity book))
+    ∷ [])
 
 -- the rows afterwards
 unfoldable pub rowsAfter : Tracker → List ℕ → List ℕ → List ℕ → List Row

@@ -3,11 +3,12 @@
 -- call, so that a layer above can put further kinds of calls beside these. Assumes nothing.
 use Prim.Native.Nat.{ℕ, _*_, _/_, _%_, _<_}
 use mathlib.Core.Path.{_≡_}
-use mathlib.Core.Bool.{cond, _&&_}
+use mathlib.Core.Bool.{_&&_}
 use mathlib.Core.List.{List, [], _∷_, _++_}
 use mathlib.Core.Option.{Option, none, some}
 use lib.Dec.{ltb, leb, eqb}
 use lib.ListN.{length}
+use Rattle.priors.specs.Rules.{rule, firstBroken}
 use Rattle.book.specs.declared.trackers.Tracker.{Tracker}
 use Rattle.book.specs.Path.{Steps, pathOf}
 use Rattle.book.specs.Calls.{BookAnswer, unlessRefused, openState, openBook, openQueue, openAnswer, addState, addBook, addQueue, addAnswer}
@@ -64,19 +65,20 @@ pub record Recount : Type 0 where
 -- An opening gets 8 for a window over 1,024; 9 for a book that is empty, no multiple of 24 bytes or over 16,384 entries, and for a queue under 516 bytes a place
 unfoldable pub openRefusal : ℕ → ℕ → ℕ → ℕ
 openRefusal window bookSize queueSize =
-    cond (leb window 1024)
-    (cond ((leb 24 bookSize && (eqb (bookSize % 24) 0 && leb bookSize (24 * 16384))) && leb (516 * window) queueSize) 0 9)
-    8
+    firstBroken
+    (rule 8 (leb window 1024)
+    ∷ rule 9 ((leb 24 bookSize && (eqb (bookSize % 24) 0 && leb bookSize (24 * 16384))) && leb (516 * window) queueSize)
+    ∷ [])
 
 -- an add gets 10 for a path that is not 1 to 64 steps of 8 bytes, 11 if H has 16,777,216 paths, 12 if more is listed for H with its path than the book has
 -- entries; never 9
 unfoldable pub addRefusal : Recount → List ℕ → ℕ
 addRefusal r path =
-    cond (leb 8 (length path) && (leb (length path) 512 && eqb (length path % 8) 0))
-    (cond (ltb (length (r .paths)) 16777216)
-    (cond (leb (length (listing (r .paths ++ pathOf path ∷ []))) (r .bookSize / 24)) 0 12)
-    11)
-    10
+    firstBroken
+    (rule 10 (leb 8 (length path) && (leb (length path) 512 && eqb (length path % 8) 0))
+    ∷ rule 11 (ltb (length (r .paths)) 16777216)
+    ∷ rule 12 (leb (length (listing (r .paths ++ pathOf path ∷ []))) (r .bookSize / 24))
+    ∷ [])
 
 -- an accepted opening: its window, no paths
 abbrev pub restarted : ℕ → ℕ → ℕ → Recount

@@ -1,11 +1,11 @@
 -- Cases of two numbers, and when two tests on numbers answer alike. Assumes nothing.
-use mathlib.Core.Path.{_≡_, refl, sym, ap, _∙_}
+use mathlib.Core.Path.{_≡_, refl, sym, _∙_}
 use mathlib.Core.Logic.{_⊎_, inl, inr, ⊎-elim}
-use mathlib.Core.Bool.{Bool, true, false, cond, not, _&&_}
+use mathlib.Core.Bool.{Bool, true, false, _&&_}
 use Prim.Native.Nat.{ℕ, zero, suc, _≤_, _<_, zero-le, suc-le-suc}
 use native.Mathlib.Omega.{arith}
-use lib.Dec.{ltb, leb, eqb}
-use borrow.Author.Tests.{lt-ltb, le-ltb, le-leb, lt-leb, eq-eqb, ne-eqb}
+use lib.Dec.{ltb, eqb}
+use borrow.Author.Tests.{lt-ltb, le-ltb, eq-eqb, ne-eqb}
 
 pub split : (a b : ℕ) → (a < b) ⊎ (b ≤ a)
 split a zero = inr zero-le
@@ -38,14 +38,3 @@ pub answers-same : (a b : Bool) → (a ≡ true → b ≡ true) → (b ≡ true 
 answers-same true b f g = sym (f refl)
 answers-same false true f g = g refl
 answers-same false false f g = refl
-
-pub not-cond : {X : Type 0} (t : Bool) (m n : X) → cond (not t) m n ≡ cond t n m
-not-cond true m n = refl
-not-cond false m n = refl
-
--- the one test is the other's denial
-pub ltb-not : (a b : ℕ) → ltb a b ≡ not (leb b a)
-ltb-not a b = ⊎-elim (λ l. lt-ltb a b l ∙ sym (ap not (lt-leb b a l))) (λ l. le-ltb a b l ∙ sym (ap not (le-leb b a l))) (split a b)
-
-pub leb-not : (a b : ℕ) → leb a b ≡ not (ltb b a)
-leb-not a b = ⊎-elim (λ l. lt-leb a b l ∙ sym (ap not (lt-ltb b a l))) (λ l. le-leb a b l ∙ sym (ap not (le-ltb b a l))) (split b a)
