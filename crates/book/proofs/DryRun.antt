@@ -6,10 +6,10 @@ use native.Mathlib.Omega.{arith}
 use mathlib.Core.List.{List, [], _∷_, _++_}
 use mathlib.Core.Option.{Option, none, some}
 use lib.ListN.{length}
-use Rattle.priors.specs.Rows.{Row, look, change, touch, afterTouch}
+use Rattle.priors.specs.Rows.{Row, look, change, touch}
 use Rattle.book.specs.Changes.{changeAll, touchAll}
 use Rattle.book.specs.Recount.{occurrences}
-use Rattle.priors.proofs.RowLaws.{gained, length-change}
+use Rattle.priors.proofs.RowLaws.{afterTouch, gained, length-change}
 use Rattle.book.proofs.Passes.{first, missing}
 use Rattle.book.proofs.ManyRows.{times, look-all}
 

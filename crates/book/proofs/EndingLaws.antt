@@ -11,7 +11,7 @@ use mathlib.Core.Option.{Option, none, some}
 use lib.Dec.{ltb, eqb}
 use lib.ListN.{length, take}
 use borrow.Author.Tests.{eqb-true}
-use Rattle.priors.specs.Rows.{Row, keys, Ascends, look, change, touch, afterTouch}
+use Rattle.priors.specs.Rows.{Row, keys, Ascends, look, change, touch}
 use Rattle.book.specs.Keys.{endKey, childKey, nodeOf, kindOf}
 use Rattle.book.specs.Path.{Steps, listedKeys}
 use Rattle.book.specs.Figures.{Listed, Ranks}
@@ -19,7 +19,7 @@ use Rattle.book.specs.Form.{plain, follows, formedAfter, formed}
 use Rattle.book.specs.Changes.{EndingsListed, changeAll, touchAll}
 use Rattle.priors.proofs.Orders.{Side, below, same, above, side, Alike, alike, unlike, compared}
 use Rattle.priors.proofs.Tests.{both}
-use Rattle.priors.proofs.RowLaws.{look-other, look-touch, touch-found}
+use Rattle.priors.proofs.RowLaws.{afterTouch, look-other, look-touch, touch-found}
 use Rattle.priors.proofs.Ext.{never, look-first, look-rest, look-low}
 use Rattle.book.proofs.ListingForm.{node-end, node-child}
 use Rattle.book.proofs.Lengths.{listed-change}

@@ -6,11 +6,12 @@ use native.Mathlib.Nat.{add-zero, sub-zero}
 use native.Mathlib.Omega.{arith}
 use mathlib.Core.List.{List, [], _∷_, map, flatMap, map-map, map-id}
 use mathlib.Core.Option.{none, some, Option·map}
-use Rattle.priors.specs.Rows.{Row, row, keys, Ascends, look, afterTouch, afterBump, afterFade}
+use Rattle.priors.specs.Rows.{Row, row, keys, Ascends, look}
 use Rattle.book.specs.Path.{Steps, listedKeys}
 use Rattle.book.specs.Changes.{touchAll}
 use Rattle.book.specs.Recount.{occurrences, listing, counted, rowsOf}
 use Rattle.priors.proofs.Orders.{Side, below, same, above, side}
+use Rattle.priors.proofs.RowLaws.{afterTouch, afterBump, afterFade}
 use Rattle.book.proofs.Passes.{found}
 use Rattle.book.proofs.ManyRows.{times, look-all, ascends-all, keys-touches}
 

@@ -8,13 +8,13 @@ use mathlib.Core.Option.{Option, none, some}
 use mathlib.Core.Bool.{Bool, true, false, cond}
 use lib.Dec.{eqb}
 use lib.ListN.{length}
-use Rattle.priors.specs.Rows.{Row, keys, Ascends, look, change, after, touch, bump, afterTouch}
+use Rattle.priors.specs.Rows.{Row, keys, Ascends, look, change, touch, bump}
 use Rattle.book.specs.Keys.{endKey, childKey}
 use Rattle.book.specs.Path.{Steps, listedKeys, countedKeys}
 use Rattle.book.specs.Changes.{changeAll, touchAll, bumpAll}
 use Rattle.book.specs.Recount.{occurrences}
 use Rattle.book.specs.Figures.{Listed}
-use Rattle.priors.proofs.RowLaws.{gained, look-change, length-change, grows}
+use Rattle.priors.proofs.RowLaws.{after, afterTouch, gained, look-change, length-change, grows}
 use Rattle.book.proofs.Passes.{onePass}
 use Rattle.book.proofs.ManyRows.{times, look-all}
 use Rattle.book.proofs.Occurrences.{counted-listed}

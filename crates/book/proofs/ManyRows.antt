@@ -5,11 +5,11 @@ use mathlib.Core.List.{List, [], _∷_}
 use mathlib.Core.Option.{Option}
 use mathlib.Core.Bool.{Bool, true, false, cond}
 use lib.Dec.{eqb}
-use Rattle.priors.specs.Rows.{Row, keys, Ascends, look, change, after, touch}
+use Rattle.priors.specs.Rows.{Row, keys, Ascends, look, change, touch}
 use Rattle.book.specs.Changes.{changeAll, touchAll}
 use Rattle.book.specs.Recount.{occurrences, enter, enterAll}
 use Rattle.priors.proofs.Orders.{Side, below, same, above, side}
-use Rattle.priors.proofs.RowLaws.{look-change, ascends-change}
+use Rattle.priors.proofs.RowLaws.{after, look-change, ascends-change}
 
 -- f, n times
 abbrev pub times : ℕ → (Option ℕ → Option ℕ) → Option ℕ → Option ℕ

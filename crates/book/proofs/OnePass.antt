@@ -6,11 +6,11 @@ use mathlib.Core.List.{List, [], _∷_}
 use mathlib.Core.Option.{Option, none, some}
 use mathlib.Core.Bool.{Bool, true, false, cond}
 use lib.Dec.{eqb}
-use Rattle.priors.specs.Rows.{Row, keys, Ascends, look, change, after, touch, bump, afterTouch, afterBump}
+use Rattle.priors.specs.Rows.{Row, keys, Ascends, look, change, touch, bump}
 use Rattle.book.specs.Keys.{endKey, childKey}
 use Rattle.book.specs.Path.{Steps, listedKeys, countedKeys}
 use Rattle.book.specs.Changes.{changeAll, touchAll, bumpAll}
-use Rattle.priors.proofs.RowLaws.{look-change, ascends-change}
+use Rattle.priors.proofs.RowLaws.{after, afterTouch, afterBump, look-change, ascends-change}
 use Rattle.priors.proofs.Ext.{ext}
 use Rattle.book.proofs.Passes.{onePass}
 

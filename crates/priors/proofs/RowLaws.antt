@@ -2,15 +2,30 @@
 -- is proved once; the last part says some of them for touch. Since a look-up ends at the first row that is not below its key, just where a change is made, only
 -- the law of the ascent itself asks that rows ascend. Assumes nothing.
 use mathlib.Core.Path.{_≡_, refl, sym, ap}
-use Prim.Native.Nat.{ℕ, suc, _+_, _≤_, _<_}
+use Prim.Native.Nat.{ℕ, suc, _+_, _-_, _≤_, _<_}
 use mathlib.Core.List.{List, [], _∷_}
 use mathlib.Core.Option.{Option, none, some}
 use native.Mathlib.Omega.{arith}
 use mathlib.Core.Bool.{cond}
 use lib.Dec.{eqb}
 use lib.ListN.{length}
-use Rattle.priors.specs.Rows.{Row, row, keys, Ascends, look, front, change, after, touch, afterTouch}
+use Rattle.priors.specs.Rows.{Row, row, keys, Ascends, look, front, change, touch}
 use Rattle.priors.proofs.Orders.{Side, below, same, above, side, compare-lt, compare-self, Alike, alike, unlike, compared}
+
+-- what a look-up for the key of a change finds afterwards, by what it found before
+abbrev pub after : Option ℕ → (ℕ → ℕ) → Option ℕ → Option ℕ
+after new step none = new
+after new step (some c) = some (step c)
+
+-- the same for each of the three changes
+abbrev pub afterTouch : Option ℕ → Option ℕ
+afterTouch = after (some 0) (λ c. c)
+
+abbrev pub afterBump : Option ℕ → Option ℕ
+afterBump = after (some 1) (λ c. c + 1)
+
+abbrev pub afterFade : Option ℕ → Option ℕ
+afterFade = after none (λ c. c - 1)
 
 -- how many rows come in, by what a look-up finds before and what a missing key comes in with
 abbrev pub gained : Option ℕ → Option ℕ → ℕ

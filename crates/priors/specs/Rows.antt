@@ -41,11 +41,6 @@ change new step k [] = front k new []
 change new step k (r ∷ rs) =
     choose (compare k (r .key)) (front k new (r ∷ rs)) (row (r .key) (step (r .count)) ∷ rs) (r ∷ change new step k rs)
 
--- what a look-up finds for k after that, by what it found before
-abbrev pub after : Option ℕ → (ℕ → ℕ) → Option ℕ → Option ℕ
-after new step none = new
-after new step (some c) = some (step c)
-
 -- k is listed: a missing key comes in with 0
 abbrev pub touch : ℕ → List Row → List Row
 touch = change (some 0) (λ c. c)
@@ -57,13 +52,3 @@ bump = change (some 1) (λ c. c + 1)
 -- k counts one less, if it counts any: a missing key is passed over
 abbrev pub fade : ℕ → List Row → List Row
 fade = change none (λ c. c - 1)
-
--- what a look-up for k finds after each, by what it found before
-abbrev pub afterTouch : Option ℕ → Option ℕ
-afterTouch = after (some 0) (λ c. c)
-
-abbrev pub afterBump : Option ℕ → Option ℕ
-afterBump = after (some 1) (λ c. c + 1)
-
-abbrev pub afterFade : Option ℕ → Option ℕ
-afterFade = after none (λ c. c - 1)
