@@ -17,7 +17,7 @@ use Rattle.priors.proofs.Ranks.{Bytes, word-lt, rankAt-lt, rank-bytes, word-bac
 use Rattle.book.specs.declared.keys.Key.{Key}
 use Rattle.book.specs.Keys.{keyOf, nodeOf, kindOf, childOf, keyValue}
 use Rattle.book.specs.Entries.{keyAt, rowAt, rows, rowBytes, bytesOf}
-use Rattle.book.proofs.KeyLaws.{key-order, key-same, key-node, key-kind, key-child, key-parts, kind-lt, child-lt, node-lt}
+use Rattle.book.proofs.KeyLaws.{key-order, key-node, key-kind, key-child, key-parts, kind-lt, child-lt, node-lt}
 
 -- ---- what stands at a place
 
@@ -38,30 +38,12 @@ getD-rows s (suc n) (suc i) d h =
     let e : 24 + 24 * i ≡ 24 * suc i = omega arith in
     getD-rows (drop 24 s) n i d (le-of-suc-le-suc h) ∙ row-drop 24 s (24 * i) ∙ ap (rowAt s) e
 
--- the parts of an entry's key are its fields
-module _ (s : List ℕ) (bytes : Bytes s) (a : ℕ) where
-  pub node-at : nodeOf (keyAt s a) ≡ rankAt s a
-  unfolding keyAt
-  node-at = key-node (rankAt s a) (word s (a + 8)) (rankAt s (a + 12)) (word-lt s bytes (a + 8)) (rankAt-lt s bytes (a + 12))
-
-  pub kind-at : kindOf (keyAt s a) ≡ word s (a + 8)
-  unfolding keyAt
-  kind-at = key-kind (rankAt s a) (word s (a + 8)) (rankAt s (a + 12)) (word-lt s bytes (a + 8)) (rankAt-lt s bytes (a + 12))
-
-  pub child-at : childOf (keyAt s a) ≡ rankAt s (a + 12)
-  unfolding keyAt
-  child-at = key-child (rankAt s a) (word s (a + 8)) (rankAt s (a + 12)) (word-lt s bytes (a + 8)) (rankAt-lt s bytes (a + 12))
-
 -- how the key of an entry stands to a key
 module _ (s : List ℕ) (bytes : Bytes s) (a : ℕ) (k : Key) (hk : k .kind < 2 ^ 32) (hc : k .child < 2 ^ 64) where
   pub order-at : ltb (keyAt s a) (keyValue k)
       ≡ ltb (rankAt s a) (k .node) || (eqb (rankAt s a) (k .node) && (ltb (word s (a + 8)) (k .kind) || (eqb (word s (a + 8)) (k .kind) && ltb (rankAt s (a + 12)) (k .child))))
   unfolding keyAt keyValue
   order-at = key-order (rankAt s a) (word s (a + 8)) (rankAt s (a + 12)) (k .node) (k .kind) (k .child) (word-lt s bytes (a + 8)) (rankAt-lt s bytes (a + 12)) hk hc
-
-  pub same-at : eqb (keyAt s a) (keyValue k) ≡ eqb (rankAt s a) (k .node) && (eqb (word s (a + 8)) (k .kind) && eqb (rankAt s (a + 12)) (k .child))
-  unfolding keyAt keyValue
-  same-at = key-same (rankAt s a) (word s (a + 8)) (rankAt s (a + 12)) (k .node) (k .kind) (k .child) (word-lt s bytes (a + 8)) (rankAt-lt s bytes (a + 12)) hk hc
 
 -- ---- the entries of two parts
 

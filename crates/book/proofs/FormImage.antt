@@ -1,6 +1,6 @@
 -- The image of a recount within the limits has the form, so that 9 never comes, and an add to it gets the recount's number. Assumes nothing.
 use mathlib.Core.Path.{_≡_, ap, _∙_}
-use Prim.Native.Nat.{ℕ, _*_, _/_, _%_, _≤_, min}
+use Prim.Native.Nat.{ℕ, _*_, _/_, _%_, min}
 use native.Mathlib.Omega.{arith}
 use mathlib.Core.List.{List, [], _∷_, _++_}
 use mathlib.Core.Bool.{true}
