@@ -17,6 +17,7 @@ use Rattle.priors.specs.Limits.{maxNodes, maxChildren}
 use Rattle.priors.specs.Tables.{lengthsFit, entriesFit, tablesRefusal}
 use Rattle.priors.specs.Priors.{records, ascends, wholeRecords, firstLinkFits, nextLinkFits, chainFits, chainAscends, countFits, totalFits, everyNode, everyChild, priorsRefusal}
 use Rattle.priors.proofs.Tests.{both}
+use Rattle.book.proofs.Kept.{rule-passed}
 use Rattle.book.specs.Form.{bookFits}
 use Rattle.baseline.specs.Limits.{maxSequences, maxPaths, maxKnots}
 use Rattle.baseline.specs.Training.{Input, knotCount, inputFits, knotRoom, firstNumber, sizesRefusal, trainRefusal}
@@ -171,10 +172,6 @@ module _ (sequences : List ℕ) (s n rate : ℕ) (fits : inputFits sequences s n
 -- ---- what no number leaves
 
 -- one after another
-rule-passed : (t : Bool) (m n : ℕ) → cond t m (suc n) ≡ 0 → (t ≡ true) × (m ≡ 0)
-rule-passed true m n h = (refl, h)
-rule-passed false m n h = absurd (omega arith)
-
 number-passed : (n : ℕ) (ns : List ℕ) → firstNumber (n ∷ ns) ≡ 0 → (n ≡ 0) × (firstNumber ns ≡ 0)
 number-passed zero ns h = (refl, h)
 number-passed (suc n) ns h = absurd (omega arith)

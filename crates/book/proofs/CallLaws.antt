@@ -13,6 +13,7 @@ use lib.ListN.{length, take, drop, length-take, length-drop}
 use borrow.Author.Tests.{leb-true, le-leb, lt-leb, lt-ltb, le-ltb}
 use Rattle.priors.specs.Word.{word, store}
 use Rattle.priors.specs.Rows.{Row, keys, Ascends}
+use Rattle.priors.proofs.BelowLaws.{first-true, second-true}
 use Rattle.priors.proofs.Ranks.{Bytes}
 use Rattle.book.specs.declared.trackers.Tracker.{Tracker}
 use Rattle.book.specs.declared.trackers.Added.{Added}
@@ -25,7 +26,7 @@ use Rattle.book.specs.Calls.{BookAnswer, addedNumber, addedState, addedA
 use Rattle.book.proofs.EntryLaws.{length-rows, length-bytesOf, rows-forth}
 use Rattle.book.proofs.ManyRows.{ascends-all}
 use Rattle.book.proofs.Lengths.{length-half}
-use Rattle.book.proofs.FormLaws.{and-left, and-right, formed-ascends, formed-counts, lengths-at}
+use Rattle.book.proofs.FormLaws.{formed-ascends, formed-counts, lengths-at}
 use Rattle.book.proofs.EndingLaws.{formed-endings}
 use Rattle.book.proofs.StepLaws.{part-steps, path-even, path-high}
 
@@ -114,7 +115,7 @@ module _ (t : Tracker) (book : List ℕ) (fits : stateFits t book ≡ true) wher
   pub used-fits : 24 * t .used ≤ length book
   unfolding stateFits later
   used-fits =
-      let l : t .used ≤ length book / 24 = leb-true (t .used) (capacity book) (and-left (leb (t .used) (capacity book)) (leb (t .accepted) maxAccepted) (and-right (leb (t .window) maxWindow) later fits)) in
+      let l : t .used ≤ length book / 24 = leb-true (t .used) (capacity book) (first-true (leb (t .used) (capacity book)) (leb (t .accepted) maxAccepted) (second-true (leb (t .window) maxWindow) later fits)) in
       omega arith
 
 pub places-fit : (window : ℕ) (queue : List ℕ) → queueFits window queue ≡ true → 516 * window ≤ length queue
@@ -133,33 +134,33 @@ module _ (t : Tracker) (book queue : List ℕ) (form : inForm t book queue ≡ t
 
   pub form-book : bookFits book ≡ true
   unfolding inForm rest-state
-  form-book = and-left (bookFits book) rest-state form
+  form-book = first-true (bookFits book) rest-state form
 
   after-book : rest-state ≡ true
   unfolding inForm rest-state
-  after-book = and-right (bookFits book) rest-state form
+  after-book = second-true (bookFits book) rest-state form
 
   after-state : rest-queue ≡ true
   unfolding rest-state rest-queue
-  after-state = and-right (stateFits t book) rest-queue after-book
+  after-state = second-true (stateFits t book) rest-queue after-book
 
   after-queue : rest-formed ≡ true
   unfolding rest-queue rest-formed
-  after-queue = and-right (queueFits (t .window) queue) rest-formed after-state
+  after-queue = second-true (queueFits (t .window) queue) rest-formed after-state
 
   pub form-used : 24 * t .used ≤ length book
   unfolding rest-state rest-queue
-  form-used = used-fits t book (and-left (stateFits t book) rest-queue after-book)
+  form-used = used-fits t book (first-true (stateFits t book) rest-queue after-book)
 
   pub form-formed : formed (rows book (t .used)) ≡ true
   unfolding rest-formed
-  form-formed = and-left (formed (rows book (t .used))) (lengthsFit queue (filled t)) after-queue
+  form-formed = first-true (formed (rows book (t .used))) (lengthsFit queue (filled t)) after-queue
 
   form-leaves : Leaves t queue
   unfolding rest-queue rest-formed
   form-leaves = record {
-    places-fit = places-fit (t .window) queue (and-left (queueFits (t .window) queue) rest-formed after-state);
-    lengths-fit = and-right (formed (rows book (t .used))) (lengthsFit queue (filled t)) after-queue;
+    places-fit = places-fit (t .window) queue (first-true (queueFits (t .window) queue) rest-formed after-state);
+    lengths-fit = second-true (formed (rows book (t .used))) (lengthsFit queue (filled t)) after-queue;
   }
 
   pub form-ascends : Ascends 0 (keys (rows book (t .used)))
@@ -248,7 +249,7 @@ module _ (t : Tracker) (book queue path : List ℕ) (r : Ready t book queue path
     pub number-small : n ≤ 16384
     unfolding bookFits
     number-small =
-        let most : capacity book ≤ 16384 = leb-true (capacity book) 16384 (and-right (leb 1 (capacity book)) (leb (capacity book) 16384) (and-right (eqb (length book % 24) 0) (leb 1 (capacity book) && leb (capacity book) 16384) (r .book-fits))) in
+        let most : capacity book ≤ 16384 = leb-true (capacity book) 16384 (second-true (leb 1 (capacity book)) (leb (capacity book) 16384) (second-true (eqb (length book % 24) 0) (leb 1 (capacity book) && leb (capacity book) 16384) (r .book-fits))) in
         omega (arith, number-is, r .room)
 
     pub half-fits : 24 * n ≤ length s₁

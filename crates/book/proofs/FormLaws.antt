@@ -14,6 +14,7 @@ use borrow.Author.Tests.{le-leb, lt-leb, eq-eqb, ne-eqb, leb-true, ltb-true, eqb
 use Rattle.priors.specs.Word.{word}
 use Rattle.priors.specs.Rows.{Row, row, keys, Ascends}
 use Rattle.priors.specs.Search.{blank}
+use Rattle.priors.proofs.BelowLaws.{first-true, second-true}
 use Rattle.book.specs.Limits.{maxCount, maxSteps, placeSize}
 use Rattle.book.specs.Keys.{keyOf, endKey, nodeOf, kindOf, childOf, noChild, keyValue}
 use Rattle.book.specs.Entries.{fieldsAt, keyAt, rowAt, rows}
@@ -23,14 +24,6 @@ use Rattle.book.specs.Form.{bookFits, queueFits, stateFits, plain, follo
 use Rattle.book.specs.Changes.{CountsUpTo}
 use Rattle.book.proofs.KeyLaws.{key-order, key-node, key-kind, key-child, key-parts}
 use Rattle.book.proofs.EntryLaws.{length-rows, getD-rows, row-take}
-
-pub and-left : (a b : Bool) → a && b ≡ true → a ≡ true
-and-left true b h = refl
-and-left false b h = h
-
-pub and-right : (a b : Bool) → a && b ≡ true → b ≡ true
-and-right true b h = h
-and-right false b h = cc
 
 pub and-true : (b : Bool) → b && true ≡ b
 and-true true = refl
@@ -150,16 +143,16 @@ module _ (queue : List ℕ) (n i : ℕ) (so-far : lengthsFit queue n ≡ lengths
 pub lengths-at : (queue : List ℕ) (n i : ℕ) → lengthsFit queue n ≡ true → i < n → (1 ≤ word queue (516 * i)) × (word queue (516 * i) ≤ 64)
 unfolding lengthsFit
 lengths-at queue zero i h l = absurd (not-suc-le-zero l)
-lengths-at queue (suc n) i h l = ⊎-elim (λ e. rw e here) (λ q. lengths-at queue n i (and-left (lengthsFit queue n) low h) q) (eq-or-lt-of-le (le-of-suc-le-suc l))
+lengths-at queue (suc n) i h l = ⊎-elim (λ e. rw e here) (λ q. lengths-at queue n i (first-true (lengthsFit queue n) low h) q) (eq-or-lt-of-le (le-of-suc-le-suc l))
   where
     low : Bool
     low = leb 1 (word queue (placeSize * n)) && leb (word queue (placeSize * n)) maxSteps
 
     here : (1 ≤ word queue (516 * n)) × (word queue (516 * n) ≤ 64)
     here =
-        let t : low ≡ true = and-right (lengthsFit queue n) low h in (
-          leb-true 1 (word queue (placeSize * n)) (and-left (leb 1 (word queue (placeSize * n))) (leb (word queue (placeSize * n)) maxSteps) t),
-          leb-true (word queue (placeSize * n)) maxSteps (and-right (leb 1 (word queue (placeSize * n))) (leb (word queue (placeSize * n)) maxSteps) t),
+        let t : low ≡ true = second-true (lengthsFit queue n) low h in (
+          leb-true 1 (word queue (placeSize * n)) (first-true (leb 1 (word queue (placeSize * n))) (leb (word queue (placeSize * n)) maxSteps) t),
+          leb-true (word queue (placeSize * n)) maxSteps (second-true (leb 1 (word queue (placeSize * n))) (leb (word queue (placeSize * n)) maxSteps) t),
         )
 
 pub ascends-after : (k : ℕ) (rs : List Row) → formedAfter k rs ≡ true → Ascends (suc k) (keys rs)
@@ -167,44 +160,44 @@ unfolding formedAfter follows
 ascends-after k [] h = tt
 ascends-after k (r ∷ rs) h =
     let f : Bool = follows k r in
-    let t : f && formedAfter (r .key) rs ≡ true = and-right (plain r) (f && formedAfter (r .key) rs) h in
+    let t : f && formedAfter (r .key) rs ≡ true = second-true (plain r) (f && formedAfter (r .key) rs) h in
     let g : Bool = eqb (nodeOf k) (nodeOf (r .key)) || eqb (kindOf (r .key)) 0 in
-    (ltb-true k (r .key) (and-left (ltb k (r .key)) g (and-left f (formedAfter (r .key) rs) t)), ascends-after (r .key) rs (and-right f (formedAfter (r .key) rs) t))
+    (ltb-true k (r .key) (first-true (ltb k (r .key)) g (first-true f (formedAfter (r .key) rs) t)), ascends-after (r .key) rs (second-true f (formedAfter (r .key) rs) t))
 
 pub formed-ascends : (rs : List Row) → formed rs ≡ true → Ascends 0 (keys rs)
 unfolding formed
 formed-ascends [] h = tt
 formed-ascends (r ∷ rs) h =
     let e : Bool = eqb (kindOf (r .key)) 0 in
-    (zero-le, ascends-after (r .key) rs (and-right e (formedAfter (r .key) rs) (and-right (plain r) (e && formedAfter (r .key) rs) h)))
+    (zero-le, ascends-after (r .key) rs (second-true e (formedAfter (r .key) rs) (second-true (plain r) (e && formedAfter (r .key) rs) h)))
 
 plain-count : (r : Row) → plain r ≡ true → r .count ≤ maxCount
 unfolding plain
 plain-count r h =
     let t : Bool = eqb (kindOf (r .key)) 1 || eqb (childOf (r .key)) noChild in
-    leb-true (r .count) maxCount (and-left (leb (r .count) maxCount) t (and-right (leb (kindOf (r .key)) 1) (leb (r .count) maxCount && t) h))
+    leb-true (r .count) maxCount (first-true (leb (r .count) maxCount) t (second-true (leb (kindOf (r .key)) 1) (leb (r .count) maxCount && t) h))
 
 counts-after : (k : ℕ) (rs : List Row) → formedAfter k rs ≡ true → CountsUpTo maxCount rs
 unfolding formedAfter
 counts-after k [] h = tt
 counts-after k (r ∷ rs) h =
     let f : Bool = follows k r in
-    let t : f && formedAfter (r .key) rs ≡ true = and-right (plain r) (f && formedAfter (r .key) rs) h in
-    (plain-count r (and-left (plain r) (f && formedAfter (r .key) rs) h), counts-after (r .key) rs (and-right f (formedAfter (r .key) rs) t))
+    let t : f && formedAfter (r .key) rs ≡ true = second-true (plain r) (f && formedAfter (r .key) rs) h in
+    (plain-count r (first-true (plain r) (f && formedAfter (r .key) rs) h), counts-after (r .key) rs (second-true f (formedAfter (r .key) rs) t))
 
 pub formed-counts : (rs : List Row) → formed rs ≡ true → CountsUpTo maxCount rs
 unfolding formed
 formed-counts [] h = tt
 formed-counts (r ∷ rs) h =
     let e : Bool = eqb (kindOf (r .key)) 0 in
-    (plain-count r (and-left (plain r) (e && formedAfter (r .key) rs) h), counts-after (r .key) rs (and-right e (formedAfter (r .key) rs) (and-right (plain r) (e && formedAfter (r .key) rs) h)))
+    (plain-count r (first-true (plain r) (e && formedAfter (r .key) rs) h), counts-after (r .key) rs (second-true e (formedAfter (r .key) rs) (second-true (plain r) (e && formedAfter (r .key) rs) h)))
 
 -- an ending has the key of its node's ending
 pub ending-key : (r : Row) → plain r ≡ true → kindOf (r .key) ≡ 0 → r .key ≡ endKey (nodeOf (r .key))
 unfolding plain endKey
 ending-key r h z =
     let t : Bool = eqb (kindOf (r .key)) 1 || eqb (childOf (r .key)) noChild in
-    let c : t ≡ true = and-right (leb (r .count) maxCount) t (and-right (leb (kindOf (r .key)) 1) (leb (r .count) maxCount && t) h) in
+    let c : t ≡ true = second-true (leb (r .count) maxCount) t (second-true (leb (kindOf (r .key)) 1) (leb (r .count) maxCount && t) h) in
     sym (key-parts (r .key)) ∙ ap₂ (keyOf (nodeOf (r .key))) z (eqb-true (childOf (r .key)) noChild (rw z at c))
 
 -- ---- what the form reads: sizes, the used entries and the lengths of filled places

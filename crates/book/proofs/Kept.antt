@@ -42,15 +42,15 @@ pub record Taken (r : Recount) (path : List ℕ) : Type 0 where
 -- ---- what a number tells
 
 -- a number that is 0 only where a test holds
-passed : (t : Bool) (m n : ℕ) → cond t m (suc n) ≡ 0 → (t ≡ true) × (m ≡ 0)
-passed true m n h = (refl, h)
-passed false m n h = absurd (omega arith)
+pub rule-passed : (t : Bool) (m n : ℕ) → cond t m (suc n) ≡ 0 → (t ≡ true) × (m ≡ 0)
+rule-passed true m n h = (refl, h)
+rule-passed false m n h = absurd (omega arith)
 
 pub open-sizes : (w b q : ℕ) → openRefusal w b q ≡ 0 → Sizes w b q
 unfolding openRefusal
 open-sizes w b q h =
-    let window = passed (leb w 1024) _ 7 h in
-    let fits = passed ((leb 24 b && (eqb (b % 24) 0 && leb b (24 * 16384))) && leb (516 * w) q) 0 8 (window .1) in
+    let window = rule-passed (leb w 1024) _ 7 h in
+    let fits = rule-passed ((leb 24 b && (eqb (b % 24) 0 && leb b (24 * 16384))) && leb (516 * w) q) 0 8 (window .1) in
     let sides = both (leb 24 b && (eqb (b % 24) 0 && leb b (24 * 16384))) (leb (516 * w) q) (fits .0) in
     let low = both (leb 24 b) (eqb (b % 24) 0 && leb b (24 * 16384)) (sides .0) in
     let high = both (eqb (b % 24) 0) (leb b (24 * 16384)) (low .1) in
@@ -66,9 +66,9 @@ pub add-taken : (r : Recount) (path : List ℕ) → addRefusal r path ≡ 0 → 
 unfolding addRefusal
 add-taken r path h =
     let n : ℕ = length path in
-    let steps = passed (leb 8 n && (leb n 512 && eqb (n % 8) 0)) _ 9 h in
-    let paths = passed (ltb (length (r .paths)) 16777216) _ 10 (steps .1) in
-    let listed = passed (leb (length (listing (r .paths ++ pathOf path ∷ []))) (r .bookSize / 24)) 0 11 (paths .1) in
+    let steps = rule-passed (leb 8 n && (leb n 512 && eqb (n % 8) 0)) _ 9 h in
+    let paths = rule-passed (ltb (length (r .paths)) 16777216) _ 10 (steps .1) in
+    let listed = rule-passed (leb (length (listing (r .paths ++ pathOf path ∷ []))) (r .bookSize / 24)) 0 11 (paths .1) in
     let low = both (leb 8 n) (leb n 512 && eqb (n % 8) 0) (steps .0) in
     let high = both (leb n 512) (eqb (n % 8) 0) (low .1) in
     record {

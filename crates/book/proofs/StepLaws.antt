@@ -11,12 +11,12 @@ use lib.Seq.{ext-getD}
 use borrow.Author.Tests.{eqb-true, leb-true}
 use Rattle.priors.specs.Word.{word}
 use Rattle.priors.specs.Address.{rank, rankAt}
+use Rattle.priors.proofs.BelowLaws.{first-true, second-true}
 use Rattle.priors.proofs.Fields.{word-drop, word-take}
 use Rattle.book.specs.Limits.{maxSteps}
 use Rattle.book.specs.Keys.{endKey, childKey}
 use Rattle.book.specs.Path.{Steps, stepsOf, pathOf, wholePath, listedKeys}
 use Rattle.book.specs.Calls.{stepsAt}
-use Rattle.book.proofs.FormLaws.{and-left, and-right}
 use Rattle.book.proofs.PathLaws.{length-steps}
 
 -- ---- steps
@@ -46,15 +46,15 @@ module _ (path : List ℕ) (i : ℕ) where
 module _ (path : List ℕ) (whole : wholePath path ≡ true) where
   pub path-even : length path % 8 ≡ 0
   unfolding wholePath
-  path-even = eqb-true (length path % 8) 0 (and-left (eqb (length path % 8) 0) (leb 1 (length path / 8) && leb (length path / 8) maxSteps) whole)
+  path-even = eqb-true (length path % 8) 0 (first-true (eqb (length path % 8) 0) (leb 1 (length path / 8) && leb (length path / 8) maxSteps) whole)
 
   pub path-low : 1 ≤ length path / 8
   unfolding wholePath
-  path-low = leb-true 1 (length path / 8) (and-left (leb 1 (length path / 8)) (leb (length path / 8) maxSteps) (and-right (eqb (length path % 8) 0) (leb 1 (length path / 8) && leb (length path / 8) maxSteps) whole))
+  path-low = leb-true 1 (length path / 8) (first-true (leb 1 (length path / 8)) (leb (length path / 8) maxSteps) (second-true (eqb (length path % 8) 0) (leb 1 (length path / 8) && leb (length path / 8) maxSteps) whole))
 
   pub path-high : length path / 8 ≤ 64
   unfolding wholePath
-  path-high = leb-true (length path / 8) 64 (and-right (leb 1 (length path / 8)) (leb (length path / 8) maxSteps) (and-right (eqb (length path % 8) 0) (leb 1 (length path / 8) && leb (length path / 8) maxSteps) whole))
+  path-high = leb-true (length path / 8) 64 (second-true (leb 1 (length path / 8)) (leb (length path / 8) maxSteps) (second-true (eqb (length path % 8) 0) (leb 1 (length path / 8) && leb (length path / 8) maxSteps) whole))
 
 -- the steps that lie in a place are those of the part that holds them
 steps-part : (s : List ℕ) (m n : ℕ) → 8 * n ≤ m → stepsOf (take m s) n ≡ stepsOf s n

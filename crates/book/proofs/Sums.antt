@@ -11,6 +11,7 @@ use Rattle.book.specs.Path.{Steps, listedKeys, countedKeys}
 use Rattle.book.specs.Recount.{occurrences, windowPart, counted, rowsOf, enter, enterAll, listing}
 use Rattle.book.specs.Figures.{total, AllWhole}
 use Rattle.priors.proofs.Orders.{Side, below, same, above, side}
+use Rattle.book.proofs.StepLaws.{length-listed}
 use Rattle.book.proofs.Image.{keys-rows}
 
 -- ---- lengths of a path's keys
@@ -20,12 +21,6 @@ unfolding countedKeys
 length-counted [] = refl
 length-counted (a ∷ []) = refl
 length-counted (a ∷ b ∷ p) = ap suc (length-counted (b ∷ p))
-
-pub length-listed : (p : Steps) → 1 ≤ length p → length (listedKeys p) + 1 ≡ 2 * length p
-unfolding listedKeys
-length-listed [] h = absurd (omega arith)
-length-listed (a ∷ []) h = refl
-length-listed (a ∷ b ∷ p) h = omega (arith, length-listed (b ∷ p) (omega arith))
 
 length-all : (f : Steps → List ℕ) (H : List Steps) → length (flatMap f H) ≡ total (λ p. length (f p)) H
 unfolding flatMap total
