@@ -1,7 +1,7 @@
 -- What is tested before the work: how the numbers come in order, and that none of them names a node. Assumes nothing.
 use mathlib.Core.Path.{_≡_, refl, sym, ap, _∙_}
 use mathlib.Core.Bool.{Bool, true, false, cond, _&&_}
-use Prim.Native.Nat.{ℕ, zero, suc, _*_, _/_, _≤_, _<_, min, zero-le}
+use Prim.Native.Nat.{ℕ, suc, _*_, _/_, _≤_, _<_, min, zero-le}
 use native.Mathlib.Omega.{arith}
 use mathlib.Core.List.{List, [], _∷_}
 use mathlib.Core.Option.{none}
@@ -20,7 +20,9 @@ use Rattle.priors.proofs.Tests.{both}
 use Rattle.book.proofs.Kept.{rule-passed}
 use Rattle.book.specs.Form.{bookFits}
 use Rattle.baseline.specs.Limits.{maxSequences, maxPaths, maxKnots}
-use Rattle.baseline.specs.Training.{Input, knotCount, inputFits, knotRoom, firstNumber, sizesRefusal, trainRefusal}
+use Rattle.divergence.specs.Checks.{orElse}
+use Rattle.divergence.proofs.CheckLaws.{stops, or-first, or-second}
+use Rattle.baseline.specs.Training.{Input, knotCount, inputFits, knotRoom, sizesRefusal, trainRefusal}
 
 -- ---- refusals and their numbers
 
@@ -71,13 +73,6 @@ no-node OneKnot h = refl
 
 -- ---- tables, priors, sizes
 
-first-is : (r : Refusal) (n : ℕ) → numberOf r ≡ n → (ns : List ℕ) → numberOf r ≡ firstNumber (n ∷ ns)
-first-is r n e ns = let m = some-number r in rw (sym e, m .1)
-
-alone : (n : ℕ) → n ≡ firstNumber (n ∷ [])
-alone zero = refl
-alone (suc n) = refl
-
 module _ (x : Input) (book knots : List ℕ) (values : List Float) where
   priors-number : ℕ
   priors-number = priorsRefusal (x .lent .nodes) (x .lent .children)
@@ -87,17 +82,17 @@ module _ (x : Input) (book knots : List ℕ) (values : List Float) where
 
   pub tables-first : (r : Refusal) → numberOf r ≡ tablesRefusal (x .lent .G) (x .lent .D) → numberOf r ≡ trainRefusal x book knots values
   unfolding trainRefusal priors-number sizes-number
-  tables-first r e = first-is r (tablesRefusal (x .lent .G) (x .lent .D)) e (priors-number ∷ sizes-number ∷ [])
+  tables-first r e = stops (tablesRefusal (x .lent .G) (x .lent .D)) (orElse priors-number sizes-number) r (sym e)
 
   module _ (tables-fit : tablesRefusal (x .lent .G) (x .lent .D) ≡ 0) where
     pub priors-second : (r : Refusal) → numberOf r ≡ priorsRefusal (x .lent .nodes) (x .lent .children) → numberOf r ≡ trainRefusal x book knots values
     unfolding trainRefusal sizes-number
-    priors-second r e = rw tables-fit (first-is r (priorsRefusal (x .lent .nodes) (x .lent .children)) e (sizes-number ∷ []))
+    priors-second r e = rw tables-fit (stops (priorsRefusal (x .lent .nodes) (x .lent .children)) sizes-number r (sym e))
 
     pub sizes-third : priorsRefusal (x .lent .nodes) (x .lent .children) ≡ 0
         → sizesRefusal (x .lent .sequences) (x .s) (x .n) (x .lent .rate) book (knotRoom knots values) ≡ trainRefusal x book knots values
     unfolding trainRefusal
-    sizes-third priors-fit = rw (tables-fit, priors-fit) (alone (sizesRefusal (x .lent .sequences) (x .s) (x .n) (x .lent .rate) book (knotRoom knots values)))
+    sizes-third priors-fit = rw (tables-fit, priors-fit)
 
 -- ---- 13 tests whichever slice holds fewer whole knots
 
@@ -171,17 +166,11 @@ module _ (sequences : List ℕ) (s n rate : ℕ) (fits : inputFits sequences s n
 
 -- ---- what no number leaves
 
--- one after another
-number-passed : (n : ℕ) (ns : List ℕ) → firstNumber (n ∷ ns) ≡ 0 → (n ≡ 0) × (firstNumber ns ≡ 0)
-number-passed zero ns h = (refl, h)
-number-passed (suc n) ns h = absurd (omega arith)
-
 -- three numbers, none of which refuses
-pub three-passed : (a b c : ℕ) → firstNumber (a ∷ b ∷ c ∷ []) ≡ 0 → (a ≡ 0) × (b ≡ 0) × (c ≡ 0)
+pub three-passed : (a b c : ℕ) → orElse a (orElse b c) ≡ 0 → (a ≡ 0) × (b ≡ 0) × (c ≡ 0)
 three-passed a b c h =
-    let first = number-passed a (b ∷ c ∷ []) h in
-    let second = number-passed b (c ∷ []) (first .1) in
-    (first .0, second .0, number-passed c [] (second .1) .0)
+    let rest = or-second a (orElse b c) h in
+    (or-first a (orElse b c) h, or-first b c rest, or-second b c rest)
 
 -- the sizes
 pub record SizesFit (sequences : List ℕ) (s n rate : ℕ) (book : List ℕ) (have : ℕ) : Type 0 where

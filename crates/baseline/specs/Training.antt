@@ -24,6 +24,7 @@ use Rattle.divergence.specs.declared.statistics.KLDivergenceStats.{KLDivergence
 use Rattle.divergence.specs.Numbers.{zero64}
 use Rattle.divergence.specs.Readings.{Reading, refused, nothing, answered, Statistics, statsReading}
 use Rattle.divergence.specs.RecountNodes.{recountNodes}
+use Rattle.divergence.specs.Checks.{orElse}
 use Rattle.baseline.specs.Limits.{maxSequences, maxPaths, maxKnots, knotValues}
 use Rattle.baseline.specs.Sums.{added, sumsAt, putSums}
 use Rattle.baseline.specs.declared.training.Trained.{Trained}
@@ -70,12 +71,6 @@ inputFits sequences s n rate =
 abbrev pub knotRoom : List ℕ → List Float → ℕ
 knotRoom knots values = min (length knots) (length values / knotValues)
 
--- the first number that is not 0
-abbrev pub firstNumber : List ℕ → ℕ
-firstNumber [] = 0
-firstNumber (zero ∷ ns) = firstNumber ns
-firstNumber (suc n ∷ ns) = suc n
-
 -- 9 for the book's size alone, 16, 13
 unfoldable pub sizesRefusal : List ℕ → ℕ → ℕ → ℕ → List ℕ → ℕ → ℕ
 sizesRefusal sequences s n rate book have =
@@ -84,11 +79,11 @@ sizesRefusal sequences s n rate book have =
 -- after tables and priors
 unfoldable pub trainRefusal : Input → List ℕ → List ℕ → List Float → ℕ
 trainRefusal x book knots values =
-    firstNumber
-    (tablesRefusal (x .lent .G) (x .lent .D)
-    ∷ priorsRefusal (x .lent .nodes) (x .lent .children)
-    ∷ sizesRefusal (x .lent .sequences) (x .s) (x .n) (x .lent .rate) book (knotRoom knots values)
-    ∷ [])
+    orElse
+    (tablesRefusal (x .lent .G) (x .lent .D))
+    (orElse
+    (priorsRefusal (x .lent .nodes) (x .lent .children))
+    (sizesRefusal (x .lent .sequences) (x .s) (x .n) (x .lent .rate) book (knotRoom knots values)))
 
 -- ---- the work
 

@@ -83,11 +83,11 @@ unless-or : {X : Type 0} (a b : ℕ) (r : Reading X) → unless (orElse a b) r �
 unless-or zero b r = refl
 unless-or (suc a) b r = refl
 
-or-first : (a b : ℕ) → orElse a b ≡ 0 → a ≡ 0
+pub or-first : (a b : ℕ) → orElse a b ≡ 0 → a ≡ 0
 or-first zero b h = refl
 or-first (suc a) b h = h
 
-or-second : (a b : ℕ) → orElse a b ≡ 0 → b ≡ 0
+pub or-second : (a b : ℕ) → orElse a b ≡ 0 → b ≡ 0
 or-second zero b h = h
 or-second (suc a) b h = absurd (omega arith)
 
