@@ -17,7 +17,7 @@ use Rattle.book.specs.Claims.{restarted}
 use Rattle.divergence.specs.declared.statistics.KLDivergenceStats.{KLDivergenceStats}
 use Rattle.baseline.specs.Training.{Lent, Input, Until, stopped, reached, andThen, recountStats, unlessStopped, recordsFrom, sequenceRecords, allRecords, addRecords, addAll}
 use Rattle.baseline.specs.Courses.{pathsOf, recountOf, pathNumber, atKnot, sampled, onePath, entered, allEntered}
-use Rattle.baseline.proofs.InputLaws.{by-number}
+use Rattle.priors.proofs.RuleLaws.{by-number}
 use Rattle.baseline.proofs.SampleLaws.{knotsBefore, knot-of}
 
 abbrev Values : Type 0

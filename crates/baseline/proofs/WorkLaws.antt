@@ -17,9 +17,10 @@ use Rattle.book.specs.Calls.{zeros}
 use Rattle.divergence.specs.declared.statistics.KLDivergenceStats.{KLDivergenceStats}
 use Rattle.divergence.specs.Numbers.{zero64}
 use Rattle.divergence.specs.Readings.{refused, answered}
-use Rattle.baseline.specs.Training.{Input, Until, stopped, reached, knotRoom, sizesRefusal, trainRefusal, addAll, started, knotLengths, course, knotsOf, trainReading, trainBook, trainKnots, trainValues}
+use Rattle.baseline.specs.Training.{Input, Until, stopped, reached, knotRoom, sizesRefusal, trainRefusal, addAll, started, knotLengths, course, knotsOf, trainAsked}
 use Rattle.baseline.specs.Courses.{Accepted, allEntered}
-use Rattle.baseline.proofs.InputLaws.{some-number, three-passed, sizes-passed, rate-some, few-sequences, few-paths, few-knots, size-is}
+use Rattle.priors.proofs.RuleLaws.{some-number}
+use Rattle.baseline.proofs.InputLaws.{three-passed, sizes-passed, rate-some, few-sequences, few-paths, few-knots, size-is}
 
 -- ---- what no refusal tells
 
@@ -69,32 +70,24 @@ stops (reached rss) values n node e = let z : _≡_ {A = ℕ} 0 1 = cc in absurd
 
 module _ (x : Input) (book knots : List ℕ) (values : List Float) where
   pub refused-leaves : (r : Refusal) → numberOf r ≡ trainRefusal x book knots values → namedNode r ≡ none
-      → (refused (numberOf r) (namedNode r) ≡ trainReading x book knots values)
-      × ((book ≡ trainBook x book knots values) × ((knots ≡ trainKnots x book knots values) × (values ≡ trainValues x book knots values)))
-  unfolding trainReading trainBook trainKnots trainValues
-  refused-leaves r e node = let m = some-number r in let number = sym e ∙ m .1 in (rw (number, node, m .1), (rw number, (rw number, rw number)))
+      → record { answer = refused (numberOf r) (namedNode r); book = book; knots = knots; values = values } ≡ trainAsked x book knots values
+  unfolding trainAsked
+  refused-leaves r e node = let m = some-number r in let number = sym e ∙ m .1 in rw (number, node, m .1)
 
   module _ (none-refused : trainRefusal x book knots values ≡ 0) where
     pub stopped-leaves : (r : Refusal) (after : List Float) → stopped (numberOf r) (namedNode r) ≡ allEntered (course x book) after
-        → (refused (numberOf r) (namedNode r) ≡ trainReading x book knots values)
-        × ((zeros (length book) ≡ trainBook x book knots values) × ((zeros (length knots) ≡ trainKnots x book knots values) × (replicate (length values) zero64 ≡ trainValues x book knots values)))
-    unfolding trainReading trainBook trainKnots trainValues
-    stopped-leaves r after e =
-        let is = stops (course x book) after (numberOf r) (namedNode r) e in
-        (rw (none-refused, is), (rw none-refused, (rw (none-refused, is), rw (none-refused, is))))
+        → record { answer = refused (numberOf r) (namedNode r); book = zeros (length book); knots = zeros (length knots); values = replicate (length values) zero64 } ≡ trainAsked x book knots values
+    unfolding trainAsked
+    stopped-leaves r after e = let is = stops (course x book) after (numberOf r) (namedNode r) e in rw (none-refused, is)
 
     pub done-leaves : (after : List Float) → reached after ≡ allEntered (course x book) (started (knotsOf x) values)
-        → (answered (knotsOf x) ≡ trainReading x book knots values)
-        × ((zeros (length book) ≡ trainBook x book knots values)
-        × ((knotLengths (knotsOf x) (x .lent .rate) ++ drop (knotsOf x) knots ≡ trainKnots x book knots values) × (after ≡ trainValues x book knots values)))
-    unfolding trainReading trainBook trainKnots trainValues
+        → record { answer = answered (knotsOf x); book = zeros (length book); knots = knotLengths (knotsOf x) (x .lent .rate) ++ drop (knotsOf x) knots; values = after } ≡ trainAsked x book knots values
+    unfolding trainAsked
     done-leaves after e = go (course x book) refl e
       where
         go : (u : Records) → course x book ≡ u → reached after ≡ allEntered u (started (knotsOf x) values)
-            → (answered (knotsOf x) ≡ trainReading x book knots values)
-            × ((zeros (length book) ≡ trainBook x book knots values)
-            × ((knotLengths (knotsOf x) (x .lent .rate) ++ drop (knotsOf x) knots ≡ trainKnots x book knots values) × (after ≡ trainValues x book knots values)))
+            → record { answer = answered (knotsOf x); book = zeros (length book); knots = knotLengths (knotsOf x) (x .lent .rate) ++ drop (knotsOf x) knots; values = after } ≡ trainAsked x book knots values
         go (stopped n node) is h = let z : _≡_ {A = ℕ} 0 1 = cc in absurd (omega arith)
         go (reached rss) is h =
             let values-are : after ≡ addAll rss (started (knotsOf x) values) = cc in
-            (rw (none-refused, is), (rw none-refused, (rw (none-refused, is), rw (none-refused, is) values-are)))
+            rw (none-refused, is, values-are)

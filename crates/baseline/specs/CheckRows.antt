@@ -1,16 +1,18 @@
 -- The kit's check rows marked *: each row is computed from the definitions that the functions' contracts cite, and one proof shows that all hold. Assumes nothing.
 use mathlib.Core.Bool.{Bool, true, false, _&&_}
-use mathlib.Core.List.{List, [], _∷_, _++_, map}
+use mathlib.Core.List.{List, [], _∷_, _++_, map, flatMap}
 use mathlib.Core.Option.{Option, none, some}
-use Prim.Native.Nat.{ℕ, _+_, _*_}
+use Prim.Native.Nat.{ℕ, _+_, _-_, _*_}
 use lib.Dec.{T, eqb}
+use lib.ListN.{length}
 use lib.Ieee.{Float, add, sub, mul, div, eq, le, ofInt, ofBits}
 use Rattle.priors.specs.Below.{allBelow, listOf}
 use Rattle.priors.specs.Word.{word, wordBytes, store}
-use Rattle.priors.specs.Address.{lift, rank}
-use Rattle.priors.specs.Rows.{Row, change, look}
+use Rattle.priors.specs.Address.{lift, rank, rankOf, addressOf}
+use Rattle.priors.specs.Rows.{Row, change, countOf}
 use Rattle.priors.specs.Tables as Tables
-use Rattle.priors.specs.Priors.{Counts, total}
+use Rattle.priors.specs.Tables.{LentTables, lentTables}
+use Rattle.priors.specs.Priors.{LentPriors, lentPriors, Counts}
 use Rattle.priors.specs.Priors as Priors
 use Rattle.book.specs.Keys.{keyOf, endKey, childKey, nodeOf, kindOf, childOf}
 use Rattle.book.specs.Entries as Entries
@@ -19,19 +21,26 @@ use Rattle.book.specs.Form as Form
 use Rattle.book.specs.Changes.{changeAll, addRows}
 use Rattle.book.specs.Calls as Calls
 use Rattle.book.specs.Calls.{zeros, fresh, addNumber}
+use Rattle.book.specs.Figures as Paths
+use Rattle.book.specs.Recount as Recount
+use Rattle.book.specs.Claims as Claims
 use Rattle.book.specs.Claims.{opening, add as adding, Machine, bookStep, runs}
 use Rattle.divergence.specs.Numbers.{fdiv, flt, zero64}
 use Rattle.divergence.specs.Nodes.{spread, listedNodes, evidenceOf}
+use Rattle.divergence.specs.RecountNodes as RecountNodes
 use Rattle.divergence.specs.Divergence as Divergence
 use Rattle.divergence.specs.Statistics as Walks
-use Rattle.divergence.specs.Probability.{figure}
 use Rattle.divergence.specs.Probability as Probability
-use Rattle.divergence.specs.Readings.{Reading, refused, nothing, answered, Divergences, Statistics, formRefusal, nodesOf, sequenceLen, withPrior, klReading, allReading, statsReading, probReading, evidenceReading}
+use Rattle.divergence.specs.Readings as Readings
+use Rattle.divergence.specs.Readings.{Reading, refused, nothing, answered, Statistics, nodesOf}
+use Rattle.divergence.specs.Answers.{VectorResult, AllResult}
+use Rattle.divergence.specs.Asked.{Seen, seenOf, Output, lentOutput, Telling, probAsked, evidenceAsked, klAsked, allAsked, statsAsked}
 use Rattle.divergence.specs.Corollaries.{readingNumber}
 use Rattle.divergence.specs.declared.statistics.KLDivergenceStats.{KLDivergenceStats}
 use Rattle.baseline.specs.declared.figures.KLDivergenceBaselineStats.{KLDivergenceBaselineStats}
 use Rattle.baseline.specs.Sums.{added, sumsAt, putSums}
-use Rattle.baseline.specs.Training.{addAll, addRecords, started}
+use Rattle.baseline.specs.Training as Training
+use Rattle.baseline.specs.Training.{TrainAnswer, inputOf, addAll, started, trainAsked}
 use Rattle.baseline.specs.Figures.{toMeanVar, interpolated}
 use Rattle.baseline.specs.Stats.{notAbove, knotFigures, lineFigures, figuresAfter, figuresAt, risesAt, rising, baselineFits, pastOneKnot, statsRefusal, baselineReading}
 
@@ -53,11 +62,11 @@ figureIs x (answered y) = eq y x
 figureIs x nothing = false
 figureIs x (refused n node) = false
 
--- so many nodes are skipped
-abbrev pub skips : ℕ → Reading Divergences → Bool
-skips k (answered a) = eqb (a .skipped) k
-skips k nothing = false
-skips k (refused n node) = false
+-- so many places are filled, and so many nodes are skipped
+abbrev pub filledAndSkipped : ℕ → ℕ → Reading AllResult → Bool
+filledAndSkipped n k (answered a) = eqb (a .places) n && eqb (a .skipped) k
+filledAndSkipped n k nothing = false
+filledAndSkipped n k (refused m node) = false
 
 abbrev pub momentsAre : Float → Float → Reading Statistics → Bool
 momentsAre sum squares (answered a) = eq (a .stats .«moment1_nz») sum && eq (a .stats .«moment2_nz») squares
@@ -85,17 +94,34 @@ countsAre child count ending (some c) = eqb (c .ending) ending && one (c .childr
     one [] = false
     one (r ∷ s ∷ rs) = false
 
--- the figures of two children and of the ending
-abbrev pub figuresAre : Float → Float → Float → Reading Counts → Bool
-figuresAre x y ending nothing = false
-figuresAre x y ending (refused n node) = false
-figuresAre x y ending (answered c) = eq (figure (c .ending) (total c)) ending && two (c .children)
-  where
-    two : List Row → Bool
-    two (r ∷ s ∷ []) = eq (figure (r .count) (total c)) x && eq (figure (s .count) (total c)) y
-    two [] = false
-    two (r ∷ []) = false
-    two (r ∷ s ∷ t ∷ rs) = false
+-- so many places are filled, and the ending has this figure
+abbrev pub filledWithEnding : ℕ → Float → Reading VectorResult → Bool
+filledWithEnding n ending (answered v) = eqb (v .places) n && eq (v .ending) ending
+filledWithEnding n ending nothing = false
+filledWithEnding n ending (refused m node) = false
+
+-- the refusal has this number and names the node with this rank
+abbrev pub refusedAt : {X : Type 0} → ℕ → ℕ → Reading X → Bool
+refusedAt n at (refused m (some a)) = eqb m n && eqb (rankOf (a .scale) (a .point)) at
+refusedAt n at (refused m none) = false
+refusedAt n at nothing = false
+refusedAt n at (answered x) = false
+
+-- the output holds these bytes and these figures, past the answer too
+abbrev pub sameNumbers : List ℕ → List ℕ → Bool
+sameNumbers [] [] = true
+sameNumbers [] (y ∷ ys) = false
+sameNumbers (x ∷ xs) [] = false
+sameNumbers (x ∷ xs) (y ∷ ys) = eqb x y && sameNumbers xs ys
+
+abbrev pub sameFigures : List Float → List Float → Bool
+sameFigures [] [] = true
+sameFigures [] (y ∷ ys) = false
+sameFigures (x ∷ xs) [] = false
+sameFigures (x ∷ xs) (y ∷ ys) = eq x y && sameFigures xs ys
+
+abbrev pub holds : List ℕ → List Float → Output → Bool
+holds addresses figures o = sameNumbers (o .addresses) addresses && sameFigures (o .figures) figures
 
 -- ---- a tracker
 
@@ -129,34 +155,52 @@ first = addressOn 1 7 ++ addressOn 0 9
 abbrev pub second : List ℕ
 second = addressOn 1 7
 
--- the answers of a tracker's readings, with tables up to 7 where no other end is named
+-- an output of three places, with 5 in every byte and every figure
+abbrev pub fives : Output
+fives = lentOutput (listOf 24 (λ k. 5)) (listOf 3 (λ k. flt 5))
+
+-- what a tracker's readings tell, with tables up to 7 where no other end is named
 module _ (m : Machine) where
-  abbrev form : ℕ
-  form = formRefusal (m .state) (m .book) (m .queue)
+  abbrev seen : Seen
+  seen = seenOf (m .state) (m .book) (m .queue)
+
+  abbrev tables : ℕ → LentTables
+  tables last = lentTables (tableG last) (tableD last)
+
+  abbrev priors : LentPriors
+  priors = lentPriors nodes children
 
   abbrev pub kl : ℕ → ℕ → Reading Float
-  kl last rank = klReading form (tableG last) (tableD last) nodes children (nodesOf (m .state) (m .book)) rank
+  kl last at = klAsked seen (tables last) priors at
 
-  abbrev pub allKl : Reading Divergences
-  allKl = allReading form (tableG 7) (tableD 7) nodes children (nodesOf (m .state) (m .book)) 3
+  abbrev pub allKl : Telling AllResult
+  allKl = allAsked seen (tables 7) priors fives
 
   abbrev pub klStats : Reading Statistics
-  klStats = statsReading form (tableG 7) (tableD 7) nodes children (nodesOf (m .state) (m .book)) (sequenceLen (m .state))
+  klStats = statsAsked seen (tables 7) priors
 
   abbrev pub evidence : ℕ → Option Counts
-  evidence rank = evidenceOf rank (nodesOf (m .state) (m .book))
+  evidence at = evidenceOf at (nodesOf (m .state) (m .book))
 
-  abbrev pub probabilities : ℕ → Reading Counts
-  probabilities rank = probReading form nodes children (nodesOf (m .state) (m .book)) rank 3
+  abbrev pub probabilities : ℕ → Telling VectorResult
+  probabilities at = probAsked seen priors at fives
 
-  abbrev pub evidenceOnly : ℕ → Reading Counts
-  evidenceOnly rank = evidenceReading form (nodesOf (m .state) (m .book)) rank 3
+  abbrev pub evidenceOnly : ℕ → Telling VectorResult
+  evidenceOnly at = evidenceAsked seen at fives
 
 -- the number of the first add
 abbrev pub firstAdd : ℕ → ℕ
 firstAdd entries = let m = tracker entries [] in addNumber (m .state) (m .book) (m .queue) first
 
 -- ---- a baseline
+
+-- a path as a place of a sequence: its length, its steps, and after these bytes that are not read
+abbrev pub placeOf : List ℕ → ℕ → List ℕ
+placeOf path steps = wordBytes steps ++ (path ++ listOf (512 - length path) (λ k. 5))
+
+-- trained on two sequences, the first path and the second, with one knot
+abbrev pub trained : TrainAnswer
+trained = trainAsked (inputOf (tableG 7) (tableD 7) nodes children (placeOf first 2 ++ placeOf second 1) 2 1 1) (zeros 72) (zeros 1) (listOf 10 (λ k. flt 5))
 
 -- a record whose maximum alone matters
 abbrev pub maximum : ℕ → KLDivergenceStats
@@ -178,22 +222,24 @@ unfoldable pub rows : List Bool
 rows =
     -- add (1,7),(0,9): divergence 6, one skipped, moments 6 and 36
     figureIs (flt 6) (kl (tracker 3 (first ∷ [])) 7 (rank 1 7))
-    ∷ skips 1 (allKl (tracker 3 (first ∷ [])))
+    ∷ filledAndSkipped 1 1 (allKl (tracker 3 (first ∷ [])) .answer)
+    ∷ holds (addressOn 1 7 ++ listOf 16 (λ k. 5)) (flt 6 ∷ flt 5 ∷ flt 5 ∷ []) (allKl (tracker 3 (first ∷ [])) .output)
     ∷ momentsAre (flt 6) (flt 36) (klStats (tracker 3 (first ∷ [])))
     -- then add (1,7): ending 1, (0,9) stays with 0, divergence 10, length 1
     ∷ countsAre (rank 0 9) 0 1 (evidence (tracker 3 (first ∷ second ∷ [])) (rank 1 7))
     ∷ figureIs (flt 10) (kl (tracker 3 (first ∷ second ∷ [])) 7 (rank 1 7))
     ∷ lengthIs 1 (klStats (tracker 3 (first ∷ second ∷ [])))
     -- probabilities then 2/7, 3/7, ending 2/7; evidence of (0,9): none
-    ∷ figuresAre (fdiv (flt 2) (flt 7)) (fdiv (flt 3) (flt 7)) (fdiv (flt 2) (flt 7)) (probabilities (tracker 3 (first ∷ second ∷ [])) (rank 1 7))
-    ∷ isNothing (evidenceOnly (tracker 3 (first ∷ second ∷ [])) (rank 0 9))
-    -- tables ending at 6: 15
-    ∷ eqb (readingNumber (kl (tracker 3 (first ∷ second ∷ [])) 6 (rank 1 7))) 15
+    ∷ filledWithEnding 2 (fdiv (flt 2) (flt 7)) (probabilities (tracker 3 (first ∷ second ∷ [])) (rank 1 7) .answer)
+    ∷ holds (addressOn 0 7 ++ (addressOn 0 9 ++ listOf 8 (λ k. 5))) (fdiv (flt 2) (flt 7) ∷ fdiv (flt 3) (flt 7) ∷ flt 5 ∷ []) (probabilities (tracker 3 (first ∷ second ∷ [])) (rank 1 7) .output)
+    ∷ isNothing (evidenceOnly (tracker 3 (first ∷ second ∷ [])) (rank 0 9) .answer)
+    -- tables ending at 6: 15, of the node (1,7)
+    ∷ refusedAt 15 (rank 1 7) (kl (tracker 3 (first ∷ second ∷ [])) 6 (rank 1 7))
     -- first add, book of two entries: 12; of three: taken
     ∷ eqb (firstAdd 2) 12
     ∷ eqb (firstAdd 3) 0
     -- two sequences, maxima 6 and 10: mean 8, variance 4
-    ∷ maximaAre (flt 8) (flt 4) (baselineReading (1 ∷ []) (knotOver (maximum 6 ∷ maximum 10 ∷ [])) 2 1)
+    ∷ maximaAre (flt 8) (flt 4) (baselineReading (trained .knots) (trained .values) 2 1)
     -- means 8 at 1 and 10 at 11: 9 at 6, 12 at 21, 0 at 0
     ∷ maximaAre (flt 9) zero64 (twoKnots 6)
     ∷ maximaAre (flt 12) zero64 (twoKnots 21)
@@ -204,5 +250,5 @@ rows =
     ∷ []
 
 pub rows-hold : T (every rows)
-unfolding rows le word store lift rank change look Tables.entriesFit Tables.entryFits Tables.lengthsFit Tables.tablesRefusal Priors.ascends Priors.ascendsAfter Priors.chain Priors.chainAscends Priors.chainFits Priors.chainOf Priors.countFits Priors.countSum Priors.findRecord Priors.firstLinkFits Priors.nextLinkFits Priors.priorOf Priors.priorsRefusal Priors.recordAt Priors.records Priors.total Priors.totalFits Priors.wholeRecords keyOf endKey childKey nodeOf kindOf childOf Entries.bytesOf Entries.rowAt Entries.keyAt Entries.rowBytes Entries.rows stepsOf wholePath listedKeys countedKeys Form.bookFits Form.follows Form.formed Form.formedAfter Form.inForm Form.lengthsFit Form.plain Form.queueFits Form.stateFits changeAll addRows Calls.addBook Calls.addNumber Calls.addQueue Calls.addState Calls.bookAfter Calls.leaving Calls.openBook Calls.openNumber Calls.openQueue Calls.openState Calls.placeBytes Calls.queueWith Calls.rowsAfter Calls.stateAfter bookStep runs spread listedNodes evidenceOf Divergence.childTerms Divergence.closed Divergence.divergence Divergence.endingTerm Divergence.lacksChild Divergence.noLess Divergence.nodeDivergence Divergence.term Walks.counted Walks.noted Walks.statsOver Walks.walk Probability.evidenceProbVector Probability.posterior Probability.probVector Probability.withEvidence Probability.withTotal withPrior klReading allReading statsReading probReading evidenceReading baselineReading statsRefusal baselineFits pastOneKnot rising risesAt allBelow figuresAt figuresAfter notAbove knotFigures lineFigures toMeanVar interpolated sumsAt putSums addRecords addAll added add sub mul div eq ofInt ofBits
+unfolding rows le word store lift rank addressOf change countOf Tables.entriesFit Tables.entryFits Tables.lengthsFit Tables.tablesRefusal Priors.ascends Priors.ascendsAfter Priors.chain Priors.chainAscends Priors.chainFits Priors.chainOf Priors.countFits Priors.countSum Priors.findRecord Priors.firstLinkFits Priors.nextLinkFits Priors.priorOf Priors.priorsRefusal Priors.recordAt Priors.records Priors.total Priors.totalFits Priors.wholeRecords keyOf endKey childKey nodeOf kindOf childOf Entries.bytesOf Entries.rowAt Entries.keyAt Entries.rowBytes Entries.rows stepsOf wholePath listedKeys countedKeys Form.bookFits Form.follows Form.formed Form.formedAfter Form.inForm Form.lengthsFit Form.plain Form.queueFits Form.stateFits changeAll addRows Calls.addBook Calls.addNumber Calls.addQueue Calls.addState Calls.bookAfter Calls.leaving Calls.openBook Calls.openNumber Calls.openQueue Calls.openState Calls.placeBytes Calls.queueWith Calls.rowsAfter Calls.stateAfter Paths.total Paths.transitions Paths.endings Recount.windowPart Recount.sequenceLength Recount.enter Recount.enterAll Recount.listing Claims.addRefusal bookStep runs spread listedNodes evidenceOf RecountNodes.nodesListed RecountNodes.followers RecountNodes.childrenListed RecountNodes.nodeCounted RecountNodes.recountNodes Divergence.childTerms Divergence.closed Divergence.divergence Divergence.endingTerm Divergence.lacksChild Divergence.noLess Divergence.nodeDivergence Divergence.term Walks.counted Walks.noted Walks.statsOver Walks.walk Probability.evidenceProbVector Probability.posterior Probability.probVector Probability.withEvidence Probability.withTotal Readings.filledAddresses Readings.filledFigures Readings.withPrior Readings.klReading Readings.allReading Readings.statsReading Readings.probReading Readings.evidenceReading trainAsked Training.trainRefusal Training.sizesRefusal Training.inputFits Training.pathIn Training.recountStats Training.recordsFrom Training.sequenceRecords Training.allRecords Training.addRecords addAll baselineReading statsRefusal baselineFits pastOneKnot rising risesAt allBelow figuresAt figuresAfter notAbove knotFigures lineFigures toMeanVar interpolated sumsAt putSums added flatMap add sub mul div eq ofInt ofBits
 rows-hold = tt

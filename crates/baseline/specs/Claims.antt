@@ -5,13 +5,17 @@ use Prim.Native.Nat.{ℕ, zero, suc, _+_, _*_, _%_, _≤_, _<_}
 use mathlib.Core.Path.{_≡_}
 use mathlib.Core.Bool.{cond}
 use mathlib.Core.List.{List, [], _∷_, map}
+use mathlib.Core.Option.{none}
 use lib.Dec.{eqb}
 use lib.ListN.{length}
+use Rattle.priors.specs.Tables.{lentTables}
+use Rattle.priors.specs.Priors.{lentPriors}
 use Rattle.book.specs.Figures.{All}
 use Rattle.book.specs.Claims.{opening, add, Machine, openRefusal, runs}
 use Rattle.divergence.specs.declared.statistics.KLDivergenceStats.{KLDivergenceStats}
-use Rattle.divergence.specs.Claims.{Call, change, read, klDivStats, Answer, changed, vector, kl, allKl, stats, step}
-use Rattle.baseline.specs.Training.{Lent, Input, Until, reached, andThen, unlessStopped, recorded, pathIn, sequenceRecords, knotLengths, knotsOf}
+use Rattle.divergence.specs.Readings.{Reading, refused, nothing, answered}
+use Rattle.divergence.specs.Claims.{Call, change, read, klDivStats, Result, vector, kl, allKl, stats, Answer, changed, told, step}
+use Rattle.baseline.specs.Training.{Lent, Input, Until, stopped, reached, andThen, unlessStopped, pathIn, sequenceRecords, knotLengths, knotsOf}
 
 -- m paths of a sequence, the first of which has the number i and lies in the place numbered first + i: each is added, and where i mod rate is 0 the statistics are read
 unfoldable pub callsFrom : Lent → ℕ → ℕ → ℕ → List Call
@@ -19,20 +23,27 @@ callsFrom x first i zero = []
 callsFrom x first i (suc m) =
     let rest = callsFrom x first (suc i) m in
     change (add (pathIn (x .sequences) (first + i)))
-    ∷ cond (eqb (i % x .rate) 0) (read (klDivStats (x .nodes) (x .children) (x .G) (x .D)) ∷ rest) rest
+    ∷ cond (eqb (i % x .rate) 0) (read (klDivStats (lentTables (x .G) (x .D)) (lentPriors (x .nodes) (x .children))) ∷ rest) rest
 
 -- the sequence numbered q runs through a fresh window-0 tracker, which has no queue
 unfoldable pub sequenceCalls : Input → List ℕ → ℕ → List Call
 sequenceCalls x book q = change (opening 0 book []) ∷ callsFrom (x .lent) (q * x .n) 0 (x .n)
 
+-- a record that a reading tells, and then those after it; a refusal comes before them, and what is no record is passed over. Of none, which `kl_div_stats` never
+-- gives, it is as with `recorded`
+abbrev pub andRecord : Reading Result → Until (List KLDivergenceStats) → Until (List KLDivergenceStats)
+andRecord (refused n node) rest = stopped n node
+andRecord nothing rest = stopped 0 none
+andRecord (answered (vector v)) rest = rest
+andRecord (answered (kl x)) rest = rest
+andRecord (answered (allKl a)) rest = rest
+andRecord (answered (stats a)) rest = andThen (reached (a .stats)) rest
+
 -- the records among answers, unless a refusal comes first
 unfoldable pub recordsIn : List Answer → Until (List KLDivergenceStats)
 recordsIn [] = reached []
 recordsIn (changed a ∷ more) = unlessStopped (a .number) (recordsIn more)
-recordsIn (vector r addresses figures ∷ more) = recordsIn more
-recordsIn (kl r ∷ more) = recordsIn more
-recordsIn (allKl r addresses figures ∷ more) = recordsIn more
-recordsIn (stats r ∷ more) = andThen (recorded r) (recordsIn more)
+recordsIn (told r outputs ∷ more) = andRecord r (recordsIn more)
 
 -- whatever tables, priors, sequences, rate and book there are, and whatever the machine was before
 abbrev pub Claim : Type 0

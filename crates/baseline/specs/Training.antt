@@ -12,18 +12,18 @@ use Rattle.priors.specs.declared.addresses.Address.{Address}
 use Rattle.priors.specs.Below.{listOf}
 use Rattle.priors.specs.Rules.{rule, firstBroken}
 use Rattle.priors.specs.Refusals.{numberOf, namedNode}
-use Rattle.priors.specs.Tables.{tablesRefusal}
-use Rattle.priors.specs.Priors.{priorsRefusal}
+use Rattle.priors.specs.Tables.{lentTables, tablesRefusal}
+use Rattle.priors.specs.Priors.{lentPriors, priorsRefusal}
 use Rattle.book.specs.Limits.{maxSteps, stepSize, placeSize}
 use Rattle.book.specs.Path.{pathOf}
 use Rattle.book.specs.Form.{bookFits}
 use Rattle.book.specs.Calls.{zeros}
-use Rattle.book.specs.Recount.{sequenceLength}
 use Rattle.book.specs.Claims.{Recount, restarted, joined, addRefusal}
 use Rattle.divergence.specs.declared.statistics.KLDivergenceStats.{KLDivergenceStats}
 use Rattle.divergence.specs.Numbers.{zero64}
-use Rattle.divergence.specs.Readings.{Reading, refused, nothing, answered, Statistics, statsReading}
-use Rattle.divergence.specs.RecountNodes.{recountNodes}
+use Rattle.divergence.specs.Readings.{Reading, refused, nothing, answered, Statistics}
+use Rattle.divergence.specs.Asked.{statsAsked}
+use Rattle.divergence.specs.Claims.{recountSeen}
 use Rattle.divergence.specs.Checks.{orElse}
 use Rattle.baseline.specs.Limits.{maxSequences, maxPaths, maxKnots, knotValues}
 use Rattle.baseline.specs.Sums.{added, sumsAt, putSums}
@@ -113,7 +113,7 @@ recorded (answered a) = reached (a .stats)
 -- `kl_div_stats` of the recount
 unfoldable pub recountStats : Lent → Recount → Until KLDivergenceStats
 recountStats x r =
-    recorded (statsReading 0 (x .G) (x .D) (x .nodes) (x .children) (recountNodes (r .window) (r .paths)) (sequenceLength (r .window) (r .paths)))
+    recorded (statsAsked (recountSeen (r .window) (r .paths)) (lentTables (x .G) (x .D)) (lentPriors (x .nodes) (x .children)))
 
 -- a path that is refused stops the training
 abbrev pub unlessStopped : {X : Type 0} → ℕ → Until X → Until X
@@ -188,20 +188,28 @@ valuesLeft zero count (stopped n node) values = replicate (length values) zero64
 valuesLeft zero count (reached rss) values = addAll rss (started count values)
 valuesLeft (suc n) count u values = values
 
--- `train`: its answer, the number of knots, and the lent book, knots and values afterwards
-unfoldable pub trainReading : Input → List ℕ → List ℕ → List Float → Reading ℕ
-trainReading x book knots values = trainedReading (trainRefusal x book knots values) (knotsOf x) (course x book)
+-- what `train` answers and leaves: its answer, the number of knots, and the lent book, knots and values afterwards
+pub record TrainAnswer : Type 0 where
+  pub answer : Reading ℕ
+  pub book : List ℕ
+  pub knots : List ℕ
+  pub values : List Float
 
-unfoldable pub trainBook : Input → List ℕ → List ℕ → List Float → List ℕ
-trainBook x book knots values = bookLeft (trainRefusal x book knots values) book
-
-unfoldable pub trainKnots : Input → List ℕ → List ℕ → List Float → List ℕ
-trainKnots x book knots values = knotsLeft (trainRefusal x book knots values) (knotsOf x) (x .lent .rate) (course x book) knots
-
-unfoldable pub trainValues : Input → List ℕ → List ℕ → List Float → List Float
-trainValues x book knots values = valuesLeft (trainRefusal x book knots values) (knotsOf x) (course x book) values
+unfoldable pub trainAsked : Input → List ℕ → List ℕ → List Float → TrainAnswer
+trainAsked x book knots values =
+    let n = trainRefusal x book knots values in
+    record {
+      answer = trainedReading n (knotsOf x) (course x book);
+      book = bookLeft n book;
+      knots = knotsLeft n (knotsOf x) (x .lent .rate) (course x book) knots;
+      values = valuesLeft n (knotsOf x) (course x book) values;
+    }
 
 -- what an answer of the code stands for
 abbrev pub trainAnswer : Trained → Reading ℕ
 trainAnswer (Knots count) = answered count
 trainAnswer (NotTrained r) = refused (numberOf r) (namedNode r)
+
+-- with what it leaves
+abbrev pub trainTold : Trained → List ℕ → List ℕ → List Float → TrainAnswer
+trainTold a book knots values = record { answer = trainAnswer a; book = book; knots = knots; values = values }

@@ -13,6 +13,7 @@ use crate::figures::to_mean_var;
 use crate::figures::weight;
 use crate::sums::KNOT_VALUES;
 use crate::sums::sums_at;
+use priors::refusals::Reason;
 use priors::refusals::Refusal;
 
 pub const MAX_SEQUENCES: u32 = 64;
@@ -142,10 +143,10 @@ pub fn stats(knots: &[u32], values: &[f64], s: u32, i: u32) -> BaselineStats
     ensures { λ r. ⌜ baselineAnswer r ≡ baselineReading (now (knots .entry)) (now (values .entry)) s i ⌝ }
 {
     if !baseline_fits(knots, values, s) {
-        return BaselineStats::Refused(Refusal::BaselineInput);
+        return BaselineStats::Refused(Refusal::Plain(Reason::BaselineInput));
     }
     if past_one_knot(knots, i) {
-        return BaselineStats::Refused(Refusal::OneKnot);
+        return BaselineStats::Refused(Refusal::Plain(Reason::OneKnot));
     }
     BaselineStats::Figures(figures_at(knots, values, s, i))
 }

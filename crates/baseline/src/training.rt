@@ -16,7 +16,7 @@ ghost use Rattle.book.specs.Claims.{restarted};
 ghost use Rattle.book.specs.Calls.{zeros};
 ghost use Rattle.divergence.specs.Numbers.{zero64};
 ghost use Rattle.baseline.specs.Limits.{maxSequences, maxPaths, knotValues};
-ghost use Rattle.baseline.specs.Training.{lentOf, inputOf, knotCount, inputFits, knotRoom, sizesRefusal, trainRefusal, pathIn, recordsFrom, allRecords, started, knotLengths, trainReading, trainBook, trainKnots, trainValues, trainAnswer};
+ghost use Rattle.baseline.specs.Training.{lentOf, inputOf, knotCount, inputFits, knotRoom, sizesRefusal, trainRefusal, pathIn, recordsFrom, allRecords, started, knotLengths, trainAsked, trainTold};
 ghost use Rattle.baseline.specs.Courses.{checkedNode, Accepted, Holds, Added, bookStats, sampled, entered, allEntered, ended, Went};
 use crate::baselines::MAX_KNOTS;
 use crate::baselines::MAX_SEQUENCES;
@@ -34,6 +34,7 @@ use divergence::answers::KlDivStats;
 use divergence::statistics::stats_of;
 use priors::checks::check_priors;
 use priors::refusals::Checked;
+use priors::refusals::Reason;
 use priors::refusals::Refusal;
 use priors::tables::check_tables;
 use priors::words::read_u32;
@@ -96,17 +97,17 @@ fn check_sizes(
     ensures { λ r. ⌜ checkedNode r ≡ none ⌝ }
 {
     if !book_fits(book) {
-        return Checked::Refused(Refusal::Form);
+        return Checked::Refused(Refusal::Plain(Reason::Form));
     }
     if !input_fits(sequences, s, n, rate) {
-        return Checked::Refused(Refusal::TrainingInput);
+        return Checked::Refused(Refusal::Plain(Reason::TrainingInput));
     }
     let count = knot_count(n, rate);
     if knots.len() < count {
-        return Checked::Refused(Refusal::OutputShort);
+        return Checked::Refused(Refusal::Plain(Reason::OutputShort));
     }
     if values.len() / KNOT_VALUES < count {
-        return Checked::Refused(Refusal::OutputShort);
+        return Checked::Refused(Refusal::Plain(Reason::OutputShort));
     }
     Checked::Passed
 }
@@ -159,10 +160,10 @@ fn add_next(sequences: &[u8], first: usize, i: usize, book: &mut [u8], used: usi
 {
     let path = path_in(sequences, first + i);
     if !whole_path(path) {
-        return Entries::Stopped(Refusal::PathLength);
+        return Entries::Stopped(Refusal::Plain(Reason::PathLength));
     }
     if !has_room(book, used, path) {
-        return Entries::Stopped(Refusal::BookFull);
+        return Entries::Stopped(Refusal::Plain(Reason::BookFull));
     }
     Entries::Used(add_steps(book, used, path))
 }
@@ -381,10 +382,7 @@ fn work(
     values: &mut [f64],
 ) -> Trained
     requires { ⌜ trainRefusal (inputOf (now g) (now d) (now nodes) (now children) (now sequences) s n rate) (now book) (now knots) (now values) ≡ 0 ⌝ }
-    ensures { λ r. ⌜ trainAnswer r ≡ trainReading (inputOf (now (g .entry)) (now (d .entry)) (now (nodes .entry)) (now (children .entry)) (now (sequences .entry)) s n rate) (now (book .entry)) (now (knots .entry)) (now (values .entry)) ⌝ }
-    ensures { λ r. ⌜ now (book .exit) ≡ trainBook (inputOf (now (g .entry)) (now (d .entry)) (now (nodes .entry)) (now (children .entry)) (now (sequences .entry)) s n rate) (now (book .entry)) (now (knots .entry)) (now (values .entry)) ⌝ }
-    ensures { λ r. ⌜ now (knots .exit) ≡ trainKnots (inputOf (now (g .entry)) (now (d .entry)) (now (nodes .entry)) (now (children .entry)) (now (sequences .entry)) s n rate) (now (book .entry)) (now (knots .entry)) (now (values .entry)) ⌝ }
-    ensures { λ r. ⌜ now (values .exit) ≡ trainValues (inputOf (now (g .entry)) (now (d .entry)) (now (nodes .entry)) (now (children .entry)) (now (sequences .entry)) s n rate) (now (book .entry)) (now (knots .entry)) (now (values .entry)) ⌝ }
+    ensures { λ r. ⌜ trainTold r (now (book .exit)) (now (knots .exit)) (now (values .exit)) ≡ trainAsked (inputOf (now (g .entry)) (now (d .entry)) (now (nodes .entry)) (now (children .entry)) (now (sequences .entry)) s n rate) (now (book .entry)) (now (knots .entry)) (now (values .entry)) ⌝ }
 {
     let count = knot_count(n, rate);
     start(values, count);
@@ -429,10 +427,7 @@ pub fn train(
     knots: &mut [u32],
     values: &mut [f64],
 ) -> Trained
-    ensures { λ r. ⌜ trainAnswer r ≡ trainReading (inputOf (now (g .entry)) (now (d .entry)) (now (nodes .entry)) (now (children .entry)) (now (sequences .entry)) s n rate) (now (book .entry)) (now (knots .entry)) (now (values .entry)) ⌝ }
-    ensures { λ r. ⌜ now (book .exit) ≡ trainBook (inputOf (now (g .entry)) (now (d .entry)) (now (nodes .entry)) (now (children .entry)) (now (sequences .entry)) s n rate) (now (book .entry)) (now (knots .entry)) (now (values .entry)) ⌝ }
-    ensures { λ r. ⌜ now (knots .exit) ≡ trainKnots (inputOf (now (g .entry)) (now (d .entry)) (now (nodes .entry)) (now (children .entry)) (now (sequences .entry)) s n rate) (now (book .entry)) (now (knots .entry)) (now (values .entry)) ⌝ }
-    ensures { λ r. ⌜ now (values .exit) ≡ trainValues (inputOf (now (g .entry)) (now (d .entry)) (now (nodes .entry)) (now (children .entry)) (now (sequences .entry)) s n rate) (now (book .entry)) (now (knots .entry)) (now (values .entry)) ⌝ }
+    ensures { λ r. ⌜ trainTold r (now (book .exit)) (now (knots .exit)) (now (values .exit)) ≡ trainAsked (inputOf (now (g .entry)) (now (d .entry)) (now (nodes .entry)) (now (children .entry)) (now (sequences .entry)) s n rate) (now (book .entry)) (now (knots .entry)) (now (values .entry)) ⌝ }
 {
     match check_input(
         g,

@@ -34,15 +34,14 @@ use Rattle.book.proofs.StepLaws.{part-steps, path-even, path-high}
 
 module _ (window : ℕ) (book queue : List ℕ) where
   pub open-refused : (n : ℕ) → openNumber window book queue ≡ suc n
-      → (record { number = suc n; state = none } ≡ openAnswer window book queue) × ((book ≡ openBook window book queue) × (queue ≡ openQueue window book queue))
+      → record { number = suc n; state = none; book = book; queue = queue } ≡ openAnswer window book queue
   unfolding openState openBook openQueue
-  open-refused n e = (rw e, (rw e, rw e))
+  open-refused n e = rw e
 
   pub open-taken : openNumber window book queue ≡ 0
-      → (record { number = 0; state = some (fresh window) } ≡ openAnswer window book queue)
-      × ((zeros (length book) ≡ openBook window book queue) × (zeros (length queue) ≡ openQueue window book queue))
+      → record { number = 0; state = some (fresh window); book = zeros (length book); queue = zeros (length queue) } ≡ openAnswer window book queue
   unfolding openState openBook openQueue
-  open-taken e = (rw e, (rw e, rw e))
+  open-taken e = rw e
 
   pub window-over : 1024 < window → openNumber window book queue ≡ 8
   unfolding openNumber
@@ -61,15 +60,14 @@ module _ (window : ℕ) (book queue : List ℕ) where
 
 module _ (t : Tracker) (book queue path : List ℕ) where
   pub add-refused : (n : ℕ) → addNumber t book queue path ≡ suc n
-      → (record { number = suc n; state = some t } ≡ addAnswer t book queue path) × ((book ≡ addBook t book queue path) × (queue ≡ addQueue t book queue path))
+      → record { number = suc n; state = some t; book = book; queue = queue } ≡ addAnswer t book queue path
   unfolding addState addBook addQueue
-  add-refused n e = (rw e, (rw e, rw e))
+  add-refused n e = rw e
 
   pub add-taken : addNumber t book queue path ≡ 0
-      → (record { number = 0; state = some (stateAfter t book queue path) } ≡ addAnswer t book queue path)
-      × ((bookAfter t book queue path ≡ addBook t book queue path) × (queueWith t queue path ≡ addQueue t book queue path))
+      → record { number = 0; state = some (stateAfter t book queue path); book = bookAfter t book queue path; queue = queueWith t queue path } ≡ addAnswer t book queue path
   unfolding addState addBook addQueue
-  add-taken e = (rw e, (rw e, rw e))
+  add-taken e = rw e
 
   pub out-of-form : inForm t book queue ≡ false → addNumber t book queue path ≡ 9
   unfolding addNumber
@@ -95,7 +93,7 @@ module _ (t : Tracker) (book queue path : List ℕ) where
         nothing-refused e = rw (formed, whole, lt-ltb (t .accepted) maxAccepted more, e)
 
   -- the parts of the answer
-  module _ (a : Added) (e : addedAnswer a ≡ addAnswer t book queue path) where
+  module _ (a : Added) (book′ queue′ : List ℕ) (e : addedAnswer a book′ queue′ ≡ addAnswer t book queue path) where
     pub added-number : addedNumber a ≡ addNumber t book queue path
     added-number = ap (λ (x : BookAnswer). x .number) e
 

@@ -1,6 +1,6 @@
--- The claim over lists of openings and adds, proved: one call takes the image of a recount to the image of the next with the recount's own answer, since the image has
--- the form, its rows are the recount's, and the path about to leave is the oldest of the window part; an accepted opening leaves an image whatever was there.
--- Assumes nothing.
+-- Openings and adds go as the recount says: one call takes the image of a recount to the image of the next with the recount's own answer, since the image has the form,
+-- its rows are the recount's, and the path about to leave is the oldest of the window part. An opening is answered so whatever was there before, and one that is
+-- accepted leaves an image. Assumes nothing.
 use mathlib.Core.Path.{_≡_, refl, sym, ap, ap₂, _∙_}
 use Prim.Native.Nat.{ℕ, zero, suc, _+_, _-_, _*_, _≤_, _<_}
 use native.Mathlib.Omega.{arith}
@@ -15,13 +15,13 @@ use Rattle.book.specs.Changes.{addRows}
 use Rattle.book.specs.Calls.{stateAfter, bookAfter, zeros, unlessRefused, fresh, openNumber, openState, openBook, openQueue, rowsAfter, addState, addBook, addQueue}
 use Rattle.book.specs.Recount.{enterAll, listing, rowsOf, held, bookImage, placesImage, queueImage}
 use Rattle.book.specs.Figures.{All}
-use Rattle.book.specs.Claims.{BookCall, opening, add, Machine, reopened, bookStep, Recount, openRefusal, addRefusal, restarted, joined, stateImage, recountStep, image, InBytes, Claim}
+use Rattle.book.specs.Claims.{BookCall, opening, add, Machine, reopened, bookStep, Recount, openRefusal, addRefusal, restarted, joined, stateImage, recountStep, image, IsOpening, InBytes}
 use Rattle.book.proofs.Step.{rows-step}
 use Rattle.book.proofs.PathLaws.{all-bytes}
 use Rattle.book.proofs.QueueImage.{leaving-image, queue-step}
 use Rattle.book.proofs.BookImage.{length-image, book-step}
 use Rattle.book.proofs.Kept.{Kept, open-sizes, add-taken, path-whole, kept-restarted, kept-step}
-use Rattle.book.proofs.Simulation.{Alike, AllAlike, runs-after, runs-image}
+use Rattle.book.proofs.Simulation.{Alike}
 use Rattle.book.proofs.RefusalLaws.{open-number}
 use Rattle.book.proofs.FormImage.{rows-are, add-number}
 
@@ -52,6 +52,14 @@ unless-image f m n x y a b e h i = ap (λ (k : ℕ). unlessRefused k x y) e ∙ 
     go zero h = h refl
     go (suc n) h = i
 
+-- two calls that are refused by one number, and where they are not, and where they are, come to the same
+unless-same : {X : Type 0} (m n : ℕ) (x y a b : X) → m ≡ n → (n ≡ 0 → x ≡ a) → y ≡ b → unlessRefused m x y ≡ unlessRefused n a b
+unless-same m n x y a b e h i = ap (λ (k : ℕ). unlessRefused k x y) e ∙ go n h
+  where
+    go : (n : ℕ) → (n ≡ 0 → x ≡ a) → unlessRefused n x y ≡ unlessRefused n a b
+    go zero h = h refl
+    go (suc n) h = i
+
 module _ (m : Machine) (r : Recount) (w : ℕ) (book queue : List ℕ) where
   pub opened : bookStep m (opening w book queue) .1 ≡ unlessRefused (openNumber w book queue) (record { state = fresh w; book = zeros (length book); queue = zeros (length queue) }) m
   unfolding bookStep openState openBook openQueue
@@ -62,13 +70,28 @@ module _ (m : Machine) (r : Recount) (w : ℕ) (book queue : List ℕ) where
       go zero = refl
       go (suc n) = refl
 
-  pub open-answer : bookStep m (opening w book queue) .0 ≡ recountStep r (opening w book queue) .0
-  unfolding bookStep openState recountStep listing enterAll flatMap
-  open-answer = rw (open-number w book queue)
-
   zeroed : openRefusal w (length book) (length queue) ≡ 0
       → _≡_ {A = Machine} (record { state = fresh w; book = zeros (length book); queue = zeros (length queue) }) (image (restarted w (length book) (length queue)))
   zeroed e = sym (image-restarted w (length book) (length queue) (open-sizes w (length book) (length queue) e .queue-fits))
+
+  pub open-answer : bookStep m (opening w book queue) .0 ≡ recountStep r (opening w book queue) .0
+  unfolding bookStep openState openBook openQueue recountStep
+  open-answer = λ i. record { number = number i; state = state i; book = book-is i; queue = queue-is i }
+    where
+      number : openNumber w book queue ≡ openRefusal w (length book) (length queue)
+      number = open-number w book queue
+
+      fresh-is : Recount
+      fresh-is = restarted w (length book) (length queue)
+
+      state : unlessRefused (openNumber w book queue) (some (fresh w)) none ≡ unlessRefused (openRefusal w (length book) (length queue)) (some (image fresh-is .state)) none
+      state = unless-same _ _ (some (fresh w)) none (some (image fresh-is .state)) none number (λ e. ap (λ (n : Machine). some (n .state)) (zeroed e)) refl
+
+      book-is : unlessRefused (openNumber w book queue) (zeros (length book)) book ≡ unlessRefused (openRefusal w (length book) (length queue)) (image fresh-is .book) book
+      book-is = unless-same _ _ (zeros (length book)) book (image fresh-is .book) book number (λ e. ap (λ (n : Machine). n .book) (zeroed e)) refl
+
+      queue-is : unlessRefused (openNumber w book queue) (zeros (length queue)) queue ≡ unlessRefused (openRefusal w (length book) (length queue)) (image fresh-is .queue) queue
+      queue-is = unless-same _ _ (zeros (length queue)) queue (image fresh-is .queue) queue number (λ e. ap (λ (n : Machine). n .queue) (zeroed e)) refl
 
   open-leaves : m ≡ image r → bookStep m (opening w book queue) .1 ≡ image (recountStep r (opening w book queue) .1)
   unfolding recountStep
@@ -126,30 +149,29 @@ module _ (r : Recount) (k : Kept r) (path : List ℕ) (bytes : All (λ b. b < 25
       refl
 
   add-answer : bookStep (image r) (add path) .0 ≡ recountStep r (add path) .0
-  unfolding bookStep recountStep
-  add-answer = λ i. record { number = add-number r k path i; state = some (add-state i) }
+  unfolding bookStep recountStep image
+  add-answer = λ i. record { number = add-number r k path i; state = some (add-state i); book = add-book i; queue = add-queue i }
 
   add-leaves : bookStep (image r) (add path) .1 ≡ image (recountStep r (add path) .1)
   unfolding bookStep image
   add-leaves = λ i. record { state = add-state i; book = add-book i; queue = add-queue i }
 
--- ---- one call, and any calls
+-- ---- one call
 
 pub step-image : (r : Recount) (c : BookCall) → Kept r → InBytes c → Alike bookStep recountStep image Kept InBytes (image r) r c
 step-image r (opening w book queue) k b = (open-answer (image r) r w book queue, open-leaves (image r) r w book queue refl, kept-step r (opening w book queue) k b)
 step-image r (add path) k b = (add-answer r k path b, add-leaves r k path b, kept-step r (add path) k b)
 
-pub kept-first : (r : Recount) (w : ℕ) (book queue : List ℕ) → openRefusal w (length book) (length queue) ≡ 0 → Kept (recountStep r (opening w book queue) .1)
+-- an opening is answered alike whatever there was
+pub opening-answer : (m : Machine) (r : Recount) (c : BookCall) → IsOpening c → bookStep m c .0 ≡ recountStep r c .0
+opening-answer m r (opening w book queue) is = open-answer m r w book queue
+opening-answer m r (add path) is = absurd is
+
+kept-first : (r : Recount) (w : ℕ) (book queue : List ℕ) → openRefusal w (length book) (length queue) ≡ 0 → Kept (recountStep r (opening w book queue) .1)
 unfolding recountStep
 kept-first r w book queue e = rw e (kept-restarted w (length book) (length queue) (open-sizes w (length book) (length queue) e))
 
--- the claim, and that what is left is within the limits
-pub claim-kept : (m : Machine) (r : Recount) (w : ℕ) (book queue : List ℕ) → openRefusal w (length book) (length queue) ≡ 0 → (cs : List BookCall) → All InBytes cs
-    → AllAlike bookStep recountStep image Kept InBytes m r (opening w book queue ∷ cs)
-claim-kept m r w book queue e cs bytes =
-    let first : Alike bookStep recountStep image Kept InBytes m r (opening w book queue) = (open-answer m r w book queue, open-fresh m r w book queue e, kept-first r w book queue e) in
-    runs-after bookStep recountStep image Kept InBytes step-image m r (opening w book queue) first cs
-    (runs-image bookStep recountStep image Kept InBytes step-image (recountStep r (opening w book queue) .1) cs (first .2) bytes)
-
-pub claim : Claim
-claim m r w book queue e cs bytes = let all = claim-kept m r w book queue e cs bytes in (all .0, all .1)
+-- one that is accepted leaves an image whatever there was
+pub accepted-opening : (m : Machine) (r : Recount) (w : ℕ) (book queue : List ℕ) → openRefusal w (length book) (length queue) ≡ 0
+    → Alike bookStep recountStep image Kept InBytes m r (opening w book queue)
+accepted-opening m r w book queue e = (open-answer m r w book queue, open-fresh m r w book queue e, kept-first r w book queue e)

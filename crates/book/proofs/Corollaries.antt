@@ -1,27 +1,31 @@
--- The corollaries, proved: H and W read off the answers are the recount's, and the rows of its image tell what its paths hold. Assumes nothing.
+-- H and W read off the answers are the recount's, and the rows of its image tell what its paths hold; and what single calls leave. Assumes nothing.
 use mathlib.Core.Path.{_≡_, refl, sym, ap, _∙_}
 use Prim.Native.Nat.{ℕ, zero, suc, _/_, _%_}
 use native.Mathlib.Omega.{arith}
 use mathlib.Core.List.{List, [], _∷_, _++_}
-use mathlib.Core.Option.{none, some}
+use mathlib.Core.Option.{some}
 use mathlib.Core.Bool.{Bool, true, false, cond, _&&_}
 use lib.Dec.{leb, ltb, eqb}
 use lib.ListN.{length}
+use mathlib.Core.Logic.{_↔_}
+use Rattle.priors.specs.Rows.{look, countOf}
+use Rattle.priors.proofs.Exactly.{look-exact}
+use Rattle.book.specs.Keys.{endKey, childKey}
 use Rattle.book.specs.Path.{Steps, pathOf}
 use Rattle.book.specs.Calls.{unlessRefused, openBook, openQueue, addState, addBook, addQueue}
-use Rattle.book.specs.Recount.{occurrences, windowPart, listing}
-use Rattle.book.specs.Figures.{total, transitions, endings}
+use Rattle.book.specs.Recount.{occurrences, windowPart, listing, rowsOf}
+use Rattle.book.specs.Figures.{total, transitions, endings, Listed}
 use Rattle.book.specs.Claims.{BookCall, opening, add, runs, bookStep, Recount, openRefusal, addRefusal, restarted, joined, recountStep, image}
-use Rattle.book.specs.Corollaries.{acceptedSince, windowSince, NeverNine, Told, Corollary, OpeningStartsAfresh, RefusedOpeningLeavesAll, RefusedAddLeavesAll, FormReadsNoOther}
+use Rattle.book.specs.Corollaries.{acceptedSince, windowSince, HasRow, Told, OpeningStartsAfresh, RefusedOpeningLeavesAll, RefusedAddLeavesAll, FormReadsNoOther}
 use Rattle.book.proofs.Passes.{found}
 use Rattle.book.proofs.Sums.{length-rows}
 use Rattle.book.proofs.Meaning.{look-ending, look-child, node-listed, child-listed-iff}
+use Rattle.book.proofs.Image.{ascends-rows}
 use Rattle.book.proofs.BookImage.{length-image}
 use Rattle.book.proofs.Kept.{Kept}
-use Rattle.book.proofs.RefusalLaws.{open-number}
 use Rattle.book.proofs.FormLaws.{form-reads}
 use Rattle.book.proofs.FormImage.{rows-are}
-use Rattle.book.proofs.Claimed.{opened, claim-kept}
+use Rattle.book.proofs.Claimed.{opened}
 
 -- ---- H and W
 
@@ -69,25 +73,26 @@ add-not-nine r path = go (leb 8 (length path) && (leb (length path) 512 && eqb (
     go true false c h = omega arith
     go false b c h = omega arith
 
-never-nine : (r : Recount) (cs : List BookCall) → NeverNine cs (runs recountStep r cs .0)
-unfolding runs recountStep
-never-nine r [] = tt
-never-nine r (opening w book queue ∷ cs) = never-nine (recountStep r (opening w book queue) .1) cs
-never-nine r (add path ∷ cs) = (add-not-nine r path, never-nine (recountStep r (add path) .1) cs)
-
 -- ---- what the book tells
 
 found-is : (n c d : ℕ) → found n c ≡ some d → d ≡ c
 found-is zero c d h = let z : _≡_ {A = ℕ} 0 1 = cc in absurd (omega arith)
 found-is (suc n) c d h = cc
 
+-- a look-up by exact key finds what a search of the recount's rows does, since they ascend
+exact : (W : ℕ) (H : List Steps) (j : ℕ) → look j (rowsOf W H) ≡ countOf j (rowsOf W H)
+exact W H j = look-exact j 0 (rowsOf W H) (ascends-rows W H)
+
+exactly : (W : ℕ) (H : List Steps) (j : ℕ) {X : Type 0} → Listed j (rowsOf W H) ↔ X → HasRow j (rowsOf W H) ↔ X
+exactly W H j e = (λ h. e .0 (h .0, exact W H j ∙ h .1), λ x. let l = e .1 x in (l .0, sym (exact W H j) ∙ l .1))
+
 pub told : (r : Recount) → Kept r → Told (image r) (r .window) (r .paths)
 unfolding image
 told r k = record {
-  transition-listed = λ a b h. rw (rows-are r k) (child-listed-iff W H (k .ranks) a b h);
-  transition-count = λ a b h c e. found-is (total (transitions a b) H) (total (transitions a b) (windowPart W H)) c (sym (look-child W H (k .ranks) a b h) ∙ (rw (rows-are r k) at e));
-  node-listed = λ a. rw (rows-are r k) (node-listed W H (k .ranks) a);
-  ending-count = λ a c e. found-is (total (occurrences a) H) (total (endings a) (windowPart W H)) c (sym (look-ending W H (k .ranks) a) ∙ (rw (rows-are r k) at e));
+  transition-listed = λ a b h. rw (rows-are r k) (exactly W H (childKey a b) (child-listed-iff W H (k .ranks) a b h));
+  transition-count = λ a b h c e. found-is (total (transitions a b) H) (total (transitions a b) (windowPart W H)) c (sym (look-child W H (k .ranks) a b h) ∙ exact W H (childKey a b) ∙ (rw (rows-are r k) at e));
+  node-listed = λ a. rw (rows-are r k) (exactly W H (endKey a) (node-listed W H (k .ranks) a));
+  ending-count = λ a c e. found-is (total (occurrences a) H) (total (endings a) (windowPart W H)) c (sym (look-ending W H (k .ranks) a) ∙ exact W H (endKey a) ∙ (rw (rows-are r k) at e));
   used-le = omega (arith, length-rows W H (k .whole), length-image W H);
 }
   where
@@ -96,13 +101,6 @@ told r k = record {
 
     H : List Steps
     H = r .paths
-
-pub corollary : Corollary
-corollary m w book queue e cs bytes =
-    let none : Recount = restarted 0 0 0 in
-    let all : List BookCall = opening w book queue ∷ cs in
-    let c = claim-kept m none w book queue (sym (open-number w book queue) ∙ e) cs bytes in
-    rw (c .0, c .1, ← since-paths none all, ← since-window none all) (told (runs recountStep none all .1) (c .2), never-nine none all)
 
 -- ---- single calls
 

@@ -1,7 +1,7 @@
 -- Any calls, one after another: if each call takes the image of one state to the image of the next with the same answer, so does every list of calls. Said for calls
 -- of any kind, so that the layers above use it for theirs. Assumes nothing.
 use mathlib.Core.Path.{_≡_, refl, ap, ap₂, _∙_}
-use mathlib.Core.List.{List, [], _∷_}
+use mathlib.Core.List.{List, [], _∷_, _++_}
 use Rattle.book.specs.Figures.{All}
 use Rattle.book.specs.Claims.{runs}
 
@@ -26,6 +26,17 @@ module _
     -- and so for a list of calls
     abbrev pub AllAlike : State → Short → List Call → Type 0
     AllAlike s r cs = (runs step s cs .0 ≡ runs short r cs .0) × (runs step s cs .1 ≡ image (runs short r cs .1)) × Kept (runs short r cs .1)
+
+    -- a first call that is answered alike, whatever it is made of, and then any
+    pub runs-from : (s : State) (r : Short) (c : Call) → step s c .0 ≡ short r c .0 → (cs : List Call) → AllAlike (step s c .1) (short r c .1) cs → AllAlike s r (c ∷ cs)
+    unfolding runs
+    runs-from s r c h cs t = (ap₂ (λ (a : Answer) (l : List Answer). a ∷ l) h (t .0), t .1, t .2)
+
+    -- first calls that are answered alike, whatever they are made of, and then others that are so
+    pub runs-first : (First : Call → Type 0) → ((s : State) (r : Short) (c : Call) → First c → step s c .0 ≡ short r c .0)
+        → (first cs : List Call) → All First first → ((s : State) (r : Short) → AllAlike s r cs) → (s : State) (r : Short) → AllAlike s r (first ++ cs)
+    runs-first First h [] cs f t s r = t s r
+    runs-first First h (c ∷ first) cs f t s r = runs-from s r c (h s r c (f .0)) (first ++ cs) (runs-first First h first cs (f .1) t (step s c .1) (short r c .1))
 
     module _ (one : (r : Short) (c : Call) → Kept r → Fine c → Alike (image r) r c) where
       -- a first call whose answers agree, and then any

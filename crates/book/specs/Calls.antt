@@ -26,10 +26,13 @@ zeros n = replicate n 0
 
 -- ---- answers
 
--- the refusal's number, 0 for none, and the state that comes back; a refused opening gives none
+-- what a call that may change a tracker answers and leaves: the refusal's number, 0 for none; the state that comes back, which a refused opening gives none of; and
+-- what it was lent as book and queue, as they are afterwards
 pub record BookAnswer : Type 0 where
   pub number : ℕ
   pub state : Option Tracker
+  pub book : List ℕ
+  pub queue : List ℕ
 
 abbrev pub openedNumber : Opened → ℕ
 openedNumber (Fresh t) = 0
@@ -39,8 +42,9 @@ abbrev pub openedState : Opened → Option Tracker
 openedState (Fresh t) = some t
 openedState (NotOpened r) = none
 
-abbrev pub openedAnswer : Opened → BookAnswer
-openedAnswer a = record { number = openedNumber a; state = openedState a }
+-- what the code's answer and the lent book and queue afterwards come to
+abbrev pub openedAnswer : Opened → List ℕ → List ℕ → BookAnswer
+openedAnswer a book queue = record { number = openedNumber a; state = openedState a; book = book; queue = queue }
 
 abbrev pub addedNumber : Added → ℕ
 addedNumber (Taken t) = 0
@@ -50,8 +54,8 @@ abbrev pub addedState : Added → Tracker
 addedState (Taken t) = t
 addedState (NotAdded r t) = t
 
-abbrev pub addedAnswer : Added → BookAnswer
-addedAnswer a = record { number = addedNumber a; state = some (addedState a) }
+abbrev pub addedAnswer : Added → List ℕ → List ℕ → BookAnswer
+addedAnswer a book queue = record { number = addedNumber a; state = some (addedState a); book = book; queue = queue }
 
 -- x where nothing is refused, else y
 abbrev pub unlessRefused {ℓ} : {X : Type ℓ} → ℕ → X → X → X
@@ -69,16 +73,21 @@ fresh window = record { window = window; used = 0; accepted = 0 }
 unfoldable pub openState : ℕ → List ℕ → List ℕ → Option Tracker
 openState window book queue = unlessRefused (openNumber window book queue) (some (fresh window)) none
 
--- what an opening answers
-abbrev pub openAnswer : ℕ → List ℕ → List ℕ → BookAnswer
-openAnswer window book queue = record { number = openNumber window book queue; state = openState window book queue }
-
 -- the lent book and the lent queue afterwards
 unfoldable pub openBook : ℕ → List ℕ → List ℕ → List ℕ
 openBook window book queue = unlessRefused (openNumber window book queue) (zeros (length book)) book
 
 unfoldable pub openQueue : ℕ → List ℕ → List ℕ → List ℕ
 openQueue window book queue = unlessRefused (openNumber window book queue) (zeros (length queue)) queue
+
+-- what an opening answers and leaves
+abbrev pub openAnswer : ℕ → List ℕ → List ℕ → BookAnswer
+openAnswer window book queue = record {
+  number = openNumber window book queue;
+  state = openState window book queue;
+  book = openBook window book queue;
+  queue = openQueue window book queue;
+}
 
 -- ---- an add
 
@@ -118,10 +127,6 @@ stateAfter t book queue path = record { window = t .window; used = length (rowsA
 unfoldable pub addState : Tracker → List ℕ → List ℕ → List ℕ → Tracker
 addState t book queue path = unlessRefused (addNumber t book queue path) (stateAfter t book queue path) t
 
--- what an add answers
-abbrev pub addAnswer : Tracker → List ℕ → List ℕ → List ℕ → BookAnswer
-addAnswer t book queue path = record { number = addNumber t book queue path; state = some (addState t book queue path) }
-
 -- the book with the path in it: the entries, and the bytes behind them as they were
 unfoldable pub bookAfter : Tracker → List ℕ → List ℕ → List ℕ → List ℕ
 bookAfter t book queue path = bytesOf (rowsAfter t book queue path) ++ drop (length (bytesOf (rowsAfter t book queue path))) book
@@ -140,6 +145,15 @@ queueWith t queue path = cond (leb 1 (t .window)) (store queue (nextPlace t) (pl
 -- the lent queue afterwards
 unfoldable pub addQueue : Tracker → List ℕ → List ℕ → List ℕ → List ℕ
 addQueue t book queue path = unlessRefused (addNumber t book queue path) (queueWith t queue path) queue
+
+-- what an add answers and leaves
+abbrev pub addAnswer : Tracker → List ℕ → List ℕ → List ℕ → BookAnswer
+addAnswer t book queue path = record {
+  number = addNumber t book queue path;
+  state = some (addState t book queue path);
+  book = addBook t book queue path;
+  queue = addQueue t book queue path;
+}
 
 -- ---- what an add leans on once no test turns it back
 

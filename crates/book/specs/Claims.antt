@@ -1,8 +1,7 @@
--- The claim over a list of openings and adds: a machine of state, book bytes and queue bytes, changed call by call as the functions' own definitions say (`Calls`),
--- gives the answers of a recount that keeps W, H and two lengths and answers from 01's table alone, and it is the image of that recount afterwards. A step takes one
--- call, so that a layer above can put further kinds of calls beside these. Assumes nothing.
+-- Openings and adds as calls of a list: a machine of state, book bytes and queue bytes that is changed call by call as the functions' contracts say (`Calls`), and a
+-- recount that keeps W, H and two lengths and answers from 01's table alone. `image` says which machine a recount stands for. The claim over every list of calls
+-- (`Claims` of divergence) puts the readings beside these. Assumes nothing.
 use Prim.Native.Nat.{ℕ, _*_, _/_, _%_, _<_}
-use mathlib.Core.Path.{_≡_}
 use mathlib.Core.Bool.{_&&_}
 use mathlib.Core.List.{List, [], _∷_, _++_}
 use mathlib.Core.Option.{Option, none, some}
@@ -11,7 +10,7 @@ use lib.ListN.{length}
 use Rattle.priors.specs.Rules.{rule, firstBroken}
 use Rattle.book.specs.declared.trackers.Tracker.{Tracker}
 use Rattle.book.specs.Path.{Steps, pathOf}
-use Rattle.book.specs.Calls.{BookAnswer, unlessRefused, openState, openBook, openQueue, openAnswer, addState, addBook, addQueue, addAnswer}
+use Rattle.book.specs.Calls.{BookAnswer, unlessRefused, openAnswer, addAnswer}
 use Rattle.book.specs.Recount.{listing, bookImage, queueImage}
 use Rattle.book.specs.Figures.{All}
 
@@ -34,24 +33,19 @@ pub record Machine : Type 0 where
   pub book : List ℕ
   pub queue : List ℕ
 
--- after an opening: what it leaves, or, where it gives no state, what there was
+-- a state that comes back, with the book and the queue that were lent for it; where none comes back, what there was
 abbrev pub reopened : Option Tracker → List ℕ → List ℕ → Machine → Machine
 reopened none book queue m = m
 reopened (some t) book queue m = record { state = t; book = book; queue = queue }
 
+-- the machine after a call that gave this answer
+abbrev pub leftBy : BookAnswer → Machine → Machine
+leftBy a m = reopened (a .state) (a .book) (a .queue) m
+
+-- what a call answers and leaves is what its function's contract says
 unfoldable pub bookStep : Machine → BookCall → BookAnswer × Machine
-bookStep m (opening window book queue) = (
-  openAnswer window book queue,
-  reopened (openState window book queue) (openBook window book queue) (openQueue window book queue) m,
-)
-bookStep m (add path) = (
-  addAnswer (m .state) (m .book) (m .queue) path,
-  record {
-    state = addState (m .state) (m .book) (m .queue) path;
-    book = addBook (m .state) (m .book) (m .queue) path;
-    queue = addQueue (m .state) (m .book) (m .queue) path;
-  },
-)
+bookStep m (opening window book queue) = let a = openAnswer window book queue in (a, leftBy a m)
+bookStep m (add path) = let a = addAnswer (m .state) (m .book) (m .queue) path in (a, leftBy a m)
 
 -- ---- the recount
 
@@ -92,19 +86,6 @@ joined r p = record { window = r .window; paths = r .paths ++ p ∷ []; bookSize
 abbrev pub stateImage : Recount → Tracker
 stateImage r = record { window = r .window; used = length (listing (r .paths)); accepted = length (r .paths) }
 
--- a refused call changes neither W nor H
-unfoldable pub recountStep : Recount → BookCall → BookAnswer × Recount
-recountStep r (opening window book queue) =
-    let n = openRefusal window (length book) (length queue) in
-    let fresh = restarted window (length book) (length queue) in
-    (record { number = n; state = unlessRefused n (some (stateImage fresh)) none }, unlessRefused n fresh r)
-recountStep r (add path) =
-    let n = addRefusal r path in
-    let after = unlessRefused n (joined r (pathOf path)) r in
-    (record { number = n; state = some (stateImage after) }, after)
-
--- ---- the claim
-
 -- what W and H stand for: the state, and every byte of book and queue
 unfoldable pub image : Recount → Machine
 image r = record {
@@ -113,16 +94,31 @@ image r = record {
   queue = queueImage (r .window) (r .paths) (r .queueSize);
 }
 
+-- a refused call changes neither W nor H, nor what it is lent; a refused opening gives no state
+unfoldable pub recountStep : Recount → BookCall → BookAnswer × Recount
+recountStep r (opening window book queue) =
+    let n = openRefusal window (length book) (length queue) in
+    let fresh = restarted window (length book) (length queue) in (
+      record {
+        number = n;
+        state = unlessRefused n (some (image fresh .state)) none;
+        book = unlessRefused n (image fresh .book) book;
+        queue = unlessRefused n (image fresh .queue) queue;
+      },
+      unlessRefused n fresh r,
+    )
+recountStep r (add path) =
+    let n = addRefusal r path in
+    let after = unlessRefused n (joined r (pathOf path)) r in
+    (record { number = n; state = some (image after .state); book = image after .book; queue = image after .queue }, after)
+
+-- ---- lists of calls
+
+abbrev pub IsOpening : BookCall → Type 0
+IsOpening (opening window book queue) = Unit {0}
+IsOpening (add path) = ⊥
+
 -- an add's path is bytes, each below 256; what an opening is lent may hold anything
 abbrev pub InBytes : BookCall → Type 0
 InBytes (opening window book queue) = Unit {0}
 InBytes (add path) = All (λ b. b < 256) path
-
--- whatever the machine and the recount were before: from an accepted opening on, for every list of calls, every answer is the recount's, and the machine afterwards
--- is the image of the recount's W and H
-abbrev pub Claim : Type 0
-Claim =
-    (m : Machine) (r : Recount) (window : ℕ) (book queue : List ℕ) → openRefusal window (length book) (length queue) ≡ 0
-    → (calls : List BookCall) → All InBytes calls
-    → (runs bookStep m (opening window book queue ∷ calls) .0 ≡ runs recountStep r (opening window book queue ∷ calls) .0)
-    × (runs bookStep m (opening window book queue ∷ calls) .1 ≡ image (runs recountStep r (opening window book queue ∷ calls) .1))

@@ -1,5 +1,6 @@
--- What follows from the claim, without the recount: H and W are read off the calls and the numbers that they were answered, as the paths accepted since the last
--- accepted opening and that opening's window; the book then tells which transitions and nodes stand in H, and how often in the window part. Assumes nothing.
+-- What the claim comes to without the recount (`Corollary` of divergence): H and W are read off the calls and the numbers that they were answered, as the paths
+-- accepted since the last accepted opening and that opening's window; the book then tells which transitions and nodes stand in H, and how often in the window part.
+-- Then what single calls leave, and what the form reads. Assumes nothing.
 use Prim.Native.Nat.{ℕ, suc, _+_, _*_, _^_, _<_, _≤_}
 use mathlib.Core.Path.{_≡_}
 use mathlib.Core.Logic.{_↔_}
@@ -7,7 +8,7 @@ use mathlib.Core.List.{List, [], _∷_, _++_}
 use mathlib.Core.Option.{some}
 use lib.ListN.{length, take}
 use Rattle.priors.specs.Word.{word}
-use Rattle.priors.specs.Rows.{Row, look}
+use Rattle.priors.specs.Rows.{Row, countOf}
 use Rattle.book.specs.declared.trackers.Tracker.{Tracker}
 use Rattle.book.specs.Limits.{entrySize, placeSize}
 use Rattle.book.specs.Keys.{endKey, childKey}
@@ -16,8 +17,8 @@ use Rattle.book.specs.Path.{Steps, pathOf}
 use Rattle.book.specs.Form.{filled, inForm}
 use Rattle.book.specs.Calls.{BookAnswer, zeros, unlessRefused, fresh, openNumber, openBook, openQueue, addNumber}
 use Rattle.book.specs.Recount.{occurrences, windowPart}
-use Rattle.book.specs.Figures.{All, total, transitions, endings, Listed, Somewhere}
-use Rattle.book.specs.Claims.{BookCall, opening, add, Machine, runs, bookStep, InBytes}
+use Rattle.book.specs.Figures.{total, transitions, endings, Somewhere}
+use Rattle.book.specs.Claims.{BookCall, opening, add, Machine, bookStep}
 
 -- ---- what was accepted, told from calls and answers
 
@@ -35,39 +36,27 @@ windowSince W (call ∷ calls) [] = W
 windowSince W (opening window book queue ∷ calls) (answer ∷ answers) = windowSince (unlessRefused (answer .number) window W) calls answers
 windowSince W (add path ∷ calls) (answer ∷ answers) = windowSince W calls answers
 
--- no add is answered 9
-abbrev pub NeverNine : List BookCall → List BookAnswer → Type 0
-NeverNine [] answers = Unit {0}
-NeverNine (call ∷ calls) [] = Unit {0}
-NeverNine (opening window book queue ∷ calls) (answer ∷ answers) = NeverNine calls answers
-NeverNine (add path ∷ calls) (answer ∷ answers) = (answer .number ≡ 9 → ⊥) × NeverNine calls answers
-
 -- ---- what the book then tells
 
 -- the used entries
 abbrev pub entriesOf : Machine → List Row
 entriesOf m = rows (m .book) (m .state .used)
 
+-- a row has the key k
+abbrev pub HasRow : ℕ → List Row → Type 0
+HasRow k rs = (c : ℕ) × (countOf k rs ≡ some c)
+
 pub record Told (m : Machine) (W : ℕ) (H : List Steps) : Type 0 where
   -- a transition is listed exactly when a path of H held it
-  pub transition-listed : (node child : ℕ) → child < 2 ^ 64 → Listed (childKey node child) (entriesOf m) ↔ Somewhere (transitions node child) H
+  pub transition-listed : (node child : ℕ) → child < 2 ^ 64 → HasRow (childKey node child) (entriesOf m) ↔ Somewhere (transitions node child) H
   -- its count is its occurrences in the window part
-  pub transition-count : (node child : ℕ) → child < 2 ^ 64 → (c : ℕ) → look (childKey node child) (entriesOf m) ≡ some c → c ≡ total (transitions node child) (windowPart W H)
+  pub transition-count : (node child : ℕ) → child < 2 ^ 64 → (c : ℕ) → countOf (childKey node child) (entriesOf m) ≡ some c → c ≡ total (transitions node child) (windowPart W H)
   -- a node is listed, with its ending, exactly when a path of H held it
-  pub node-listed : (node : ℕ) → Listed (endKey node) (entriesOf m) ↔ Somewhere (occurrences node) H
+  pub node-listed : (node : ℕ) → HasRow (endKey node) (entriesOf m) ↔ Somewhere (occurrences node) H
   -- the ending's count is how many paths of the window part end there
-  pub ending-count : (node c : ℕ) → look (endKey node) (entriesOf m) ≡ some c → c ≡ total (endings node) (windowPart W H)
+  pub ending-count : (node c : ℕ) → countOf (endKey node) (entriesOf m) ≡ some c → c ≡ total (endings node) (windowPart W H)
   -- of the paths of H, p in number and of s steps in all, at most 2s - p entries are used
   pub used-le : m .state .used + length H ≤ 2 * total length H
-
--- whatever there was before: after an accepted opening and any calls
-abbrev pub Corollary : Type 0
-Corollary =
-    (m : Machine) (window : ℕ) (book queue : List ℕ) → openNumber window book queue ≡ 0
-    → (calls : List BookCall) → All InBytes calls
-    → let all = opening window book queue ∷ calls in
-    let ran = runs bookStep m all in
-    Told (ran .1) (windowSince 0 all (ran .0)) (acceptedSince [] all (ran .0)) × NeverNine all (ran .0)
 
 -- ---- single calls, whatever there was before
 

@@ -1,6 +1,6 @@
 -- The plain recount: W and H, a list of paths, and what is listed and counted for them, from the paths alone. It looks at no book and no queue; the images at
 -- the end say what bytes stand for W and H. Assumes nothing.
-use Prim.Native.Nat.{ℕ, zero, suc, _+_, _-_, _*_, _%_, compare}
+use Prim.Native.Nat.{ℕ, zero, suc, _-_, _*_, _%_, compare}
 use mathlib.Core.List.{List, [], _∷_, _++_, map, flatMap}
 use mathlib.Core.Option.{Option, none, some}
 use mathlib.Core.Bool.{cond}

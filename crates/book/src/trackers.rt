@@ -8,7 +8,7 @@ ghost use Rattle.book.specs.Entries.{rows, Rewritten};
 ghost use Rattle.book.specs.Changes.{fadeAll, leftKeys};
 ghost use Rattle.book.specs.Figures.{inWindow};
 ghost use Rattle.book.specs.Form.{inForm};
-ghost use Rattle.book.specs.Calls.{openedAnswer, addedAnswer, openAnswer, openBook, openQueue, addAnswer, addBook, addQueue, nextPlace, leaving, queueWith, stateAfter, bookAfter, Ready, Leaves};
+ghost use Rattle.book.specs.Calls.{openedAnswer, addedAnswer, openAnswer, addAnswer, nextPlace, leaving, queueWith, stateAfter, bookAfter, Ready, Leaves};
 use crate::form::book_fits;
 use crate::form::in_form;
 use crate::form::queue_fits;
@@ -22,6 +22,7 @@ use crate::queue::clear;
 use crate::queue::oldest;
 use crate::queue::put_path;
 use crate::room::has_room;
+use priors::refusals::Reason;
 use priors::refusals::Refusal;
 
 pub struct Tracker {
@@ -45,18 +46,16 @@ pub enum Added {
 impl Tracker {
     // Opens a tracker: book and queue are zeroed to their ends. 8 for a window over 1,024, 9 for what is lent.
     pub fn open(window: u32, book: &mut [u8], queue: &mut [u8]) -> Opened
-        ensures { λ r. ⌜ openedAnswer r ≡ openAnswer window (now (book .entry)) (now (queue .entry)) ⌝ }
-        ensures { λ r. ⌜ now (book .exit) ≡ openBook window (now (book .entry)) (now (queue .entry)) ⌝ }
-        ensures { λ r. ⌜ now (queue .exit) ≡ openQueue window (now (book .entry)) (now (queue .entry)) ⌝ }
+        ensures { λ r. ⌜ openedAnswer r (now (book .exit)) (now (queue .exit)) ≡ openAnswer window (now (book .entry)) (now (queue .entry)) ⌝ }
     {
         if MAX_WINDOW < window {
-            return Opened::Refused(Refusal::Window);
+            return Opened::Refused(Refusal::Plain(Reason::Window));
         }
         if !book_fits(book) {
-            return Opened::Refused(Refusal::Form);
+            return Opened::Refused(Refusal::Plain(Reason::Form));
         }
         if !queue_fits(window, queue) {
-            return Opened::Refused(Refusal::Form);
+            return Opened::Refused(Refusal::Plain(Reason::Form));
         }
         clear(book);
         clear(queue);
@@ -69,12 +68,10 @@ impl Tracker {
 
     // Adds a path and takes the oldest past the window away: 9 for the form, 10 for the path, 11 and 12 where it is one too many.
     pub fn add_path(mut self, book: &mut [u8], queue: &mut [u8], path: &[u8]) -> Added
-        ensures { λ r. ⌜ addedAnswer r ≡ addAnswer self (now (book .entry)) (now (queue .entry)) (now (path .entry)) ⌝ }
-        ensures { λ r. ⌜ now (book .exit) ≡ addBook self (now (book .entry)) (now (queue .entry)) (now (path .entry)) ⌝ }
-        ensures { λ r. ⌜ now (queue .exit) ≡ addQueue self (now (book .entry)) (now (queue .entry)) (now (path .entry)) ⌝ }
+        ensures { λ r. ⌜ addedAnswer r (now (book .exit)) (now (queue .exit)) ≡ addAnswer self (now (book .entry)) (now (queue .entry)) (now (path .entry)) ⌝ }
     {
         if !in_form(self, book, queue) {
-            return Added::Refused(Refusal::Form, self);
+            return Added::Refused(Refusal::Plain(Reason::Form), self);
         }
         self.add_formed(book, queue, path)
     }
@@ -82,18 +79,16 @@ impl Tracker {
     // The same behind its form test.
     pub fn add_formed(mut self, book: &mut [u8], queue: &mut [u8], path: &[u8]) -> Added
         requires { ⌜ inForm self (now book) (now queue) ≡ true ⌝ }
-        ensures { λ r. ⌜ addedAnswer r ≡ addAnswer self (now (book .entry)) (now (queue .entry)) (now (path .entry)) ⌝ }
-        ensures { λ r. ⌜ now (book .exit) ≡ addBook self (now (book .entry)) (now (queue .entry)) (now (path .entry)) ⌝ }
-        ensures { λ r. ⌜ now (queue .exit) ≡ addQueue self (now (book .entry)) (now (queue .entry)) (now (path .entry)) ⌝ }
+        ensures { λ r. ⌜ addedAnswer r (now (book .exit)) (now (queue .exit)) ≡ addAnswer self (now (book .entry)) (now (queue .entry)) (now (path .entry)) ⌝ }
     {
         if !whole_path(path) {
-            return Added::Refused(Refusal::PathLength, self);
+            return Added::Refused(Refusal::Plain(Reason::PathLength), self);
         }
         if MAX_ACCEPTED <= self.accepted {
-            return Added::Refused(Refusal::PathsFull, self);
+            return Added::Refused(Refusal::Plain(Reason::PathsFull), self);
         }
         if !has_room(book, self.used as usize, path) {
-            return Added::Refused(Refusal::BookFull, self);
+            return Added::Refused(Refusal::Plain(Reason::BookFull), self);
         }
         Added::Taken(self.add_within(book, queue, path))
     }

@@ -1,22 +1,20 @@
 -- The checks before a reading: what a reading answers by their number, and what their passing tells. Assumes nothing.
 use mathlib.Core.Path.{_≡_, refl, sym, ap, _∙_}
 use mathlib.Core.Bool.{Bool, true, false, cond, _&&_}
-use Prim.Native.Nat.{ℕ, zero, suc, _*_, _%_, _≤_, _<_}
+use Prim.Native.Nat.{ℕ, zero, suc, _*_, _%_, _≤_}
 use native.Mathlib.Omega.{arith}
 use mathlib.Core.List.{List}
-use mathlib.Core.Option.{Option, none}
+use mathlib.Core.Option.{none}
 use lib.Ieee.{Float}
 use lib.Dec.{eqb, leb}
 use lib.ListN.{length}
 use borrow.Author.Tests.{leb-true}
-use Rattle.priors.specs.declared.addresses.Address.{Address}
 use Rattle.priors.specs.declared.refusals.Refusal.{Refusal}
-use Rattle.priors.specs.declared.refusals.Refusal.the-variants.{TableLengths, TableEntry, PriorSizes, NodeOrder, Links, ChainOrder, ZeroPrior, Window, Form, PathLength, PathsFull, BookFull, OutputShort, MissingChild, PastTable, TrainingInput, BaselineInput, OneKnot}
-use Rattle.priors.specs.Limits.{maxNodes, maxChildren}
 use Rattle.priors.specs.Refusals.{numberOf, namedNode}
-use Rattle.priors.specs.Tables.{lengthsFit, entriesFit, tablesRefusal}
-use Rattle.priors.specs.Priors.{records, ascends, wholeRecords, everyNode, everyChild, firstLinkFits, nextLinkFits, chainFits, chainAscends, countFits, totalFits, priorsRefusal}
+use Rattle.priors.specs.Tables.{tablesRefusal}
+use Rattle.priors.specs.Priors.{priorsRefusal}
 use Rattle.priors.proofs.BelowLaws.{second-true}
+use Rattle.priors.proofs.RuleLaws.{namesNone, tables-keep, priors-keep, some-number, by-number, unnamed}
 use Rattle.book.specs.declared.trackers.Tracker.{Tracker}
 use Rattle.book.specs.Limits.{maxEntries}
 use Rattle.book.specs.Form.{bookFits, capacity, formed, inForm}
@@ -25,57 +23,23 @@ use Rattle.book.proofs.CallLaws.{form-book, form-used, form-formed}
 use Rattle.divergence.specs.Readings.{Reading, refused, unless, formRefusal}
 use Rattle.divergence.specs.Checks.{orElse, checksRefusal}
 
--- ---- the numbers of the checks are below 14, so they name no node
+-- ---- the numbers of the checks name no node
 
-cond-le : (b : Bool) (x n k : ℕ) → x ≤ k → n ≤ k → cond b x n ≤ k
-cond-le true x n k h l = h
-cond-le false x n k h l = l
+or-keeps : (test : ℕ → Bool) (a b : ℕ) → test a ≡ true → test b ≡ true → test (orElse a b) ≡ true
+or-keeps test zero b h l = l
+or-keeps test (suc a) b h l = h
 
-tables-le : (G D : List Float) → tablesRefusal G D ≤ 9
-unfolding tablesRefusal
-tables-le G D = cond-le (lengthsFit G D) _ 1 9 (cond-le (entriesFit G) _ 2 9 (cond-le (entriesFit D) 0 2 9 (omega arith) (omega arith)) (omega arith)) (omega arith)
+pub priors-unnamed : (nodes children : List ℕ) → namesNone (priorsRefusal nodes children) ≡ true
+priors-unnamed nodes children = priors-keep namesNone nodes children refl refl
 
-pub priors-le : (nodes children : List ℕ) → priorsRefusal nodes children ≤ 9
-unfolding priorsRefusal
-priors-le nodes children =
-    cond-le (wholeRecords nodes maxNodes) _ 3 9
-    (cond-le (wholeRecords children maxChildren) _ 3 9
-    (cond-le (ascends (records nodes)) _ 4 9
-    (cond-le (everyNode nodes (firstLinkFits nodes children)) _ 5 9
-    (cond-le (everyChild children (nextLinkFits children)) _ 5 9
-    (cond-le (everyNode nodes (chainFits nodes children)) _ 5 9
-    (cond-le (everyNode nodes (chainAscends nodes children)) _ 6 9
-    (cond-le (everyChild children (countFits children)) _ 7 9
-    (cond-le (everyNode nodes (totalFits nodes children)) 0 7 9 (omega arith) (omega arith)) (omega arith)) (omega arith)) (omega arith)) (omega arith)) (omega arith)) (omega arith)) (omega arith)) (omega arith)
+form-unnamed : (b : Bool) → namesNone (cond b 0 9) ≡ true
+form-unnamed true = refl
+form-unnamed false = refl
 
-or-le : (a b : ℕ) → a ≤ 9 → b ≤ 9 → orElse a b ≤ 9
-or-le zero b h l = l
-or-le (suc a) b h l = h
-
-checks-le : (t : Tracker) (book queue nodes children : List ℕ) (G D : List Float) → checksRefusal t book queue nodes children G D ≤ 9
-checks-le t book queue nodes children G D =
-    or-le (tablesRefusal G D) (orElse (priorsRefusal nodes children) (formRefusal t book queue)) (tables-le G D)
-    (or-le (priorsRefusal nodes children) (formRefusal t book queue) (priors-le nodes children) (cond-le (inForm t book queue) 0 9 9 (omega arith) (omega arith)))
-
-pub unnamed : (r : Refusal) → numberOf r ≤ 13 → namedNode r ≡ none
-unnamed TableLengths h = refl
-unnamed TableEntry h = refl
-unnamed PriorSizes h = refl
-unnamed NodeOrder h = refl
-unnamed Links h = refl
-unnamed ChainOrder h = refl
-unnamed ZeroPrior h = refl
-unnamed Window h = refl
-unnamed Form h = refl
-unnamed PathLength h = refl
-unnamed PathsFull h = refl
-unnamed BookFull h = refl
-unnamed OutputShort h = refl
-unnamed (MissingChild node) h = absurd (omega arith)
-unnamed (PastTable node) h = absurd (omega arith)
-unnamed TrainingInput h = refl
-unnamed BaselineInput h = refl
-unnamed OneKnot h = refl
+checks-unnamed : (t : Tracker) (book queue nodes children : List ℕ) (G D : List Float) → namesNone (checksRefusal t book queue nodes children G D) ≡ true
+checks-unnamed t book queue nodes children G D =
+    or-keeps namesNone (tablesRefusal G D) (orElse (priorsRefusal nodes children) (formRefusal t book queue)) (tables-keep namesNone G D refl refl)
+    (or-keeps namesNone (priorsRefusal nodes children) (formRefusal t book queue) (priors-unnamed nodes children) (form-unnamed (inForm t book queue)))
 
 -- ---- a reading after the checks
 
@@ -95,30 +59,9 @@ form-true : (b : Bool) → _≡_ {A = ℕ} (cond b 0 9) 0 → b ≡ true
 form-true true h = refl
 form-true false h = absurd (omega arith)
 
--- a refusal's number is not 0
-pub numbered : (q : Refusal) → 0 < numberOf q
-numbered TableLengths = omega arith
-numbered TableEntry = omega arith
-numbered PriorSizes = omega arith
-numbered NodeOrder = omega arith
-numbered Links = omega arith
-numbered ChainOrder = omega arith
-numbered ZeroPrior = omega arith
-numbered Window = omega arith
-numbered Form = omega arith
-numbered PathLength = omega arith
-numbered PathsFull = omega arith
-numbered BookFull = omega arith
-numbered OutputShort = omega arith
-numbered (MissingChild node) = omega arith
-numbered (PastTable node) = omega arith
-numbered TrainingInput = omega arith
-numbered BaselineInput = omega arith
-numbered OneKnot = omega arith
-
 -- a refusal's number ends the checks, 0 goes on to the next
 pub stops : (a b : ℕ) (q : Refusal) → a ≡ numberOf q → numberOf q ≡ orElse a b
-stops zero b q h = absurd (omega (arith, numbered q))
+stops zero b q h = absurd (omega (arith, some-number q .1))
 stops (suc a) b q h = sym h
 
 pub goes-on : (a b n : ℕ) → a ≡ 0 → n ≡ b → n ≡ orElse a b
@@ -133,9 +76,10 @@ pub form-broken : (b : Bool) → b ≡ false → _≡_ {A = ℕ} 9 (cond b 0 9)
 form-broken true h = cc
 form-broken false h = refl
 
-pub unless-some : {X : Type 0} (n : ℕ) {o : Option Address} (r : Reading X) → 0 < n → o ≡ none → refused n o ≡ unless n r
-unless-some zero r h e = absurd (omega arith)
-unless-some (suc n) r h e = ap (refused (suc n)) e
+-- a refusal that names no node, with the number of a check, is what the check answers
+pub unless-refused : {X : Type 0} (q : Refusal) (n : ℕ) (r : Reading X) → numberOf q ≡ n → namesNone n ≡ true → refused (numberOf q) (namedNode q) ≡ unless n r
+unless-refused q n r e h =
+    ap (refused (numberOf q)) (unnamed q (ap namesNone e ∙ h)) ∙ by-number (λ m. refused m none) (λ m. unless m r) (λ m. refl) q ∙ ap (λ (m : ℕ). unless m r) e
 
 -- the form keeps used entries within the limit
 pub form-few : (t : Tracker) (book queue : List ℕ) → inForm t book queue ≡ true → t .used ≤ maxEntries
@@ -154,9 +98,7 @@ module _ (t : Tracker) (book queue nodes children : List ℕ) (G D : List Float)
 
   -- a refusal with the number of the checks is the reading's answer
   pub refused-by : {X : Type 0} (q : Refusal) (r : Reading X) → numberOf q ≡ checksRefusal t book queue nodes children G D → refused (numberOf q) (namedNode q) ≡ afterChecks r
-  refused-by q r h =
-      let small : numberOf q ≤ 9 = omega (arith, checks-le t book queue nodes children G D) in
-      unless-some (numberOf q) r (numbered q) (unnamed q (omega arith)) ∙ sym (checks-are r ∙ ap (λ (n : ℕ). unless n r) (sym h))
+  refused-by q r h = unless-refused q (checksRefusal t book queue nodes children G D) r h (checks-unnamed t book queue nodes children G D) ∙ sym (checks-are r)
 
   module _ (h : checksRefusal t book queue nodes children G D ≡ 0) where
     pub passed-by : {X : Type 0} (r : Reading X) → r ≡ afterChecks r

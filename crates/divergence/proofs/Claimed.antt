@@ -2,21 +2,23 @@
 -- the nodes and the sequence length that the recount has. Assumes nothing.
 use mathlib.Core.Path.{_≡_, refl, sym, ap, _∙_}
 use Prim.Native.Nat.{ℕ}
-use mathlib.Core.List.{List, [], _∷_}
+use mathlib.Core.List.{List, _∷_, _++_}
 use mathlib.Core.Bool.{Bool, cond}
 use lib.ListN.{length}
 use Rattle.book.specs.Recount.{sequenceLength}
 use Rattle.book.specs.Figures.{All}
-use Rattle.book.specs.Claims.{BookCall, opening, bookStep, Machine, Recount, openRefusal, recountStep, image, InBytes, runs}
+use Rattle.book.specs.Claims as Book
+use Rattle.book.specs.Claims.{BookCall, opening, bookStep, Machine, Recount, openRefusal, recountStep, image}
 use Rattle.book.proofs.Window.{sequence-length}
 use Rattle.book.proofs.Kept.{Kept}
 use Rattle.book.proofs.FormImage.{rows-are, in-form}
-use Rattle.book.proofs.Simulation.{Alike, AllAlike, runs-after, runs-image}
-use Rattle.book.proofs.Claimed as Book
+use Rattle.book.proofs.Simulation.{Alike, AllAlike, runs-first, runs-after, runs-image}
+use Rattle.book.proofs.Claimed as Opened
 use Rattle.divergence.specs.Nodes.{listedNodes}
 use Rattle.divergence.specs.RecountNodes.{recountNodes}
 use Rattle.divergence.specs.Readings.{formRefusal, nodesOf, sequenceLen}
-use Rattle.divergence.specs.Claims.{ReadingCall, Call, change, read, changed, readingAnswer, step, recounted, CallInBytes, Claim}
+use Rattle.divergence.specs.Asked.{Seen, seenOf}
+use Rattle.divergence.specs.Claims.{ReadingCall, Call, change, read, changed, reading, step, recountSeen, recounted, IsOpening, InBytes, Claim}
 use Rattle.divergence.proofs.RecountNodeLaws.{listed-nodes}
 
 -- ---- a reading of a recount's image
@@ -33,34 +35,40 @@ module _ (r : Recount) (k : Kept r) where
   unfolding image
   length-is = sym (sequence-length (r .window) (r .paths))
 
+  seen-is : seenOf (image r .state) (image r .book) (image r .queue) ≡ recountSeen (r .window) (r .paths)
+  seen-is = λ i. record { form = form-fits i; listed = nodes-are i; sequenceLength = length-is i }
+
   pub read-answer : (c : ReadingCall) → step (image r) (read c) .0 ≡ recounted r (read c) .0
   unfolding step recounted
-  read-answer c = λ i. readingAnswer (form-fits i) (nodes-are i) (length-is i) c
+  read-answer c = ap (λ (s : Seen). reading s c) seen-is
 
 -- ---- one call, and any calls
 
--- an opening or an add: what the book's claim says of it
-change-alike : (m : Machine) (r : Recount) (c : BookCall) → Alike bookStep recountStep image Kept InBytes m r c → Alike step recounted image Kept CallInBytes m r (change c)
+-- an opening or an add: as the book says of it
+change-alike : (m : Machine) (r : Recount) (c : BookCall) → Alike bookStep recountStep image Kept Book.InBytes m r c → Alike step recounted image Kept InBytes m r (change c)
 unfolding step recounted
 change-alike m r c a = (ap changed (a .0), a .1, a .2)
 
-pub step-image : (r : Recount) (c : Call) → Kept r → CallInBytes c → Alike step recounted image Kept CallInBytes (image r) r c
+step-image : (r : Recount) (c : Call) → Kept r → InBytes c → Alike step recounted image Kept InBytes (image r) r c
 unfolding step recounted
-step-image r (change c) k b = change-alike (image r) r c (Book.step-image r c k b)
+step-image r (change c) k b = change-alike (image r) r c (Opened.step-image r c k b)
 step-image r (read c) k b = (read-answer r k c, refl, k)
 
--- an accepted opening, whatever there was: the book's claim for it alone
-open-alike : (m : Machine) (r : Recount) (w : ℕ) (book queue : List ℕ) → openRefusal w (length book) (length queue) ≡ 0 → Alike bookStep recountStep image Kept InBytes m r (opening w book queue)
-unfolding runs
-open-alike m r w book queue e = let one = Book.claim-kept m r w book queue e [] tt in (Book.open-answer m r w book queue, one .1, one .2)
+opening-answer : (m : Machine) (r : Recount) (c : Call) → IsOpening c → step m c .0 ≡ recounted r c .0
+unfolding step recounted
+opening-answer m r (change c) is = ap changed (Opened.opening-answer m r c is)
+opening-answer m r (read c) is = absurd is
 
 -- the claim, and that what is left is within the limits
-pub claim-kept : (m : Machine) (r : Recount) (w : ℕ) (book queue : List ℕ) → openRefusal w (length book) (length queue) ≡ 0 → (cs : List Call) → All CallInBytes cs
-    → AllAlike step recounted image Kept CallInBytes m r (change (opening w book queue) ∷ cs)
-claim-kept m r w book queue e cs bytes =
-    let first : Alike step recounted image Kept CallInBytes m r (change (opening w book queue)) = change-alike m r (opening w book queue) (open-alike m r w book queue e) in
-    runs-after step recounted image Kept CallInBytes step-image m r (change (opening w book queue)) first cs
-    (runs-image step recounted image Kept CallInBytes step-image (recounted r (change (opening w book queue)) .1) cs (first .2) bytes)
+pub claim-kept : (m : Machine) (r : Recount) (first : List Call) → All IsOpening first → (w : ℕ) (book queue : List ℕ) → openRefusal w (length book) (length queue) ≡ 0
+    → (cs : List Call) → All InBytes cs → AllAlike step recounted image Kept InBytes m r (first ++ change (opening w book queue) ∷ cs)
+claim-kept m r first openings w book queue e cs bytes = runs-first step recounted image Kept InBytes IsOpening opening-answer first (change (opening w book queue) ∷ cs) openings from m r
+  where
+    from : (m : Machine) (r : Recount) → AllAlike step recounted image Kept InBytes m r (change (opening w book queue) ∷ cs)
+    from m r =
+        let one : Alike step recounted image Kept InBytes m r (change (opening w book queue)) = change-alike m r (opening w book queue) (Opened.accepted-opening m r w book queue e) in
+        runs-after step recounted image Kept InBytes step-image m r (change (opening w book queue)) one cs
+        (runs-image step recounted image Kept InBytes step-image (recounted r (change (opening w book queue)) .1) cs (one .2) bytes)
 
 pub claim : Claim
-claim m r w book queue e cs bytes = let all = claim-kept m r w book queue e cs bytes in (all .0, all .1)
+claim m r first openings w book queue e cs bytes = let all = claim-kept m r first openings w book queue e cs bytes in (all .0, all .1)

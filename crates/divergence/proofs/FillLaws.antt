@@ -16,7 +16,8 @@ use Rattle.priors.specs.Address.{addressOf, addressBytes}
 use Rattle.priors.specs.Rows.{Row}
 use Rattle.priors.specs.declared.records.Record.{Record}
 use Rattle.priors.specs.declared.refusals.Refusal.{Refusal}
-use Rattle.priors.specs.declared.refusals.Refusal.the-variants.{MissingChild as ChildMissing, PastTable as TablePast}
+use Rattle.priors.specs.declared.refusals.Refusal.the-variants.{AtNode}
+use Rattle.priors.specs.declared.refusals.NodeReason.the-variants.{MissingChild as ChildMissing, PastTable as TablePast}
 use Rattle.priors.specs.Refusals.{numberOf, namedNode}
 use Rattle.priors.specs.declared.refusals.Checked.{Checked}
 use Rattle.priors.specs.declared.refusals.Checked.the-variants.{Passed, Refused}
@@ -259,8 +260,8 @@ module _ (G D : List Float) (nodes children : List ℕ) where
   stop-visited node (Value x) (walked ps k) on q h = let z : _≡_ {A = ℕ} 0 1 = cc in absurd (omega arith)
   stop-visited node NoPrior (stopped n a) on q h = on q h
   stop-visited node NoPrior (walked ps k) on q h = let z : _≡_ {A = ℕ} 0 1 = cc in absurd (omega arith)
-  stop-visited node MissingChild rest on q h = let e : q ≡ ChildMissing (addressOf node) = cc in ap (λ (p : Refusal). refused (numberOf p) (namedNode p)) e
-  stop-visited node PastTable rest on q h = let e : q ≡ TablePast (addressOf node) = cc in ap (λ (p : Refusal). refused (numberOf p) (namedNode p)) e
+  stop-visited node MissingChild rest on q h = let e : q ≡ AtNode ChildMissing (addressOf node) = cc in ap (λ (p : Refusal). refused (numberOf p) (namedNode p)) e
+  stop-visited node PastTable rest on q h = let e : q ≡ AtNode TablePast (addressOf node) = cc in ap (λ (p : Refusal). refused (numberOf p) (namedNode p)) e
 
   stop-reading : (ns : List Node) (q : Refusal) → stopOf (walk G D nodes children ns) ≡ Refused q → refused (numberOf q) (namedNode q) ≡ walkReading (walk G D nodes children ns)
   unfolding walk

@@ -11,7 +11,7 @@ use lib.ListN.{length}
 use lib.Ieee.{Float}
 use borrow.Author.Tests.{ltb-true}
 use Rattle.priors.specs.Below.{allBelow}
-use Rattle.priors.specs.Rows.{Row, look}
+use Rattle.priors.specs.Rows.{Row, countOf}
 use Rattle.priors.specs.Tables.{within, tableAt, entryFits, entriesFit, lengthsFit, tablesRefusal}
 use Rattle.priors.specs.Priors.{Counts, total, priorOf, priorsRefusal}
 use Rattle.priors.proofs.PriorLaws.{accepted, Positive, prior-positive}
@@ -20,6 +20,7 @@ use Rattle.divergence.specs.Nodes.{Node, evidenceOf}
 use Rattle.divergence.specs.Divergence.{noSums, term, endingTerm, priorCount, childTerms, closed, divergence, isNone, lacksChild, nodeDivergence}
 use Rattle.divergence.specs.Statistics.{Walk, visited, walk}
 use Rattle.divergence.specs.Readings.{Reading, unless, fitting, divergenceReading, ofListed, klReading, withPrior, walkReading, allReading, statsReadingOf, statsReading}
+use Rattle.divergence.specs.Asked.{roomIn}
 use Rattle.divergence.specs.Corollaries.{IndexZeroUnread}
 
 -- ---- what is the same where it is looked at is the same
@@ -45,10 +46,10 @@ same-entries x y t = λ j. allBelow (suc (length t) - 1) (λ i. within (same-at 
 -- ---- children of a prior
 
 -- one that is not missing has a count
-child-positive : (p : Counts) → Positive p → (k : ℕ) → isNone (look k (p .children)) ≡ false → 0 < priorCount (look k (p .children))
-child-positive p positive k h = go (look k (p .children)) refl h
+child-positive : (p : Counts) → Positive p → (k : ℕ) → isNone (countOf k (p .children)) ≡ false → 0 < priorCount (countOf k (p .children))
+child-positive p positive k h = go (countOf k (p .children)) refl h
   where
-    go : (o : Option ℕ) → look k (p .children) ≡ o → isNone o ≡ false → 0 < priorCount o
+    go : (o : Option ℕ) → countOf k (p .children) ≡ o → isNone o ≡ false → 0 < priorCount o
     go none e h = let z : _≡_ {A = ℕ} 0 1 = cc in absurd (omega arith)
     go (some c) e h = positive .count-positive k c e
 
@@ -77,8 +78,8 @@ module _ (g g′ d d′ : Float) (G D : List Float) where
     unfolding childTerms lacksChild
     same-children s [] h = refl
     same-children s (e ∷ es) h =
-        let a = priorCount (look (e .key) (p .children)) in
-        let has = neither (isNone (look (e .key) (p .children))) (lacksChild (p .children) es) h in
+        let a = priorCount (countOf (e .key) (p .children)) in
+        let has = neither (isNone (countOf (e .key) (p .children))) (lacksChild (p .children) es) h in
         rw (same-term (total p) s a (e .count) (positive .total-positive) (child-positive p positive (e .key) (has .0)))
         (same-children (term (g′ ∷ G) (d′ ∷ D) (total p) s a (e .count)) es (has .1))
 
@@ -120,10 +121,22 @@ module _ (g g′ d d′ : Float) (G D : List Float) where
       same-walk [] = refl
       same-walk (n ∷ ns) = ap₂ (visited (n .address)) (same-ranked (n .address) (n .evidence)) (same-walk ns)
 
+    module _ (form : ℕ) (ns : List Node) where
+      kl-same : (rank : ℕ) → klReading form (g ∷ G) (d ∷ D) nodes children ns rank ≡ klReading form (g′ ∷ G) (d′ ∷ D) nodes children ns rank
+      unfolding klReading
+      kl-same rank = same-checked form (λ ok. same-listed ok rank (evidenceOf rank ns))
+
+      all-same : (have : ℕ) → allReading form (g ∷ G) (d ∷ D) nodes children ns have ≡ allReading form (g′ ∷ G) (d′ ∷ D) nodes children ns have
+      unfolding allReading
+      all-same have = same-checked form (λ ok. ap (λ (w : Walk). fitting (withPrior nodes children ns) have (walkReading w)) (same-walk ok ns))
+
+      pub stats-same : (len : ℕ) → statsReading form (g ∷ G) (d ∷ D) nodes children ns len ≡ statsReading form (g′ ∷ G) (d′ ∷ D) nodes children ns len
+      unfolding statsReading
+      stats-same len = same-checked form (λ ok. ap (statsReadingOf len) (same-walk ok ns))
+
 pub index-zero-unread : IndexZeroUnread
-unfolding klReading allReading statsReading
-index-zero-unread form nodes children ns rank have len = (
-  λ g g′ d d′ G D. same-checked g g′ d d′ G D nodes children form (λ ok. same-listed g g′ d d′ G D nodes children ok rank (evidenceOf rank ns)),
-  λ g g′ d d′ G D. same-checked g g′ d d′ G D nodes children form (λ ok. ap (λ (w : Walk). fitting (withPrior nodes children ns) have (walkReading w)) (same-walk g g′ d d′ G D nodes children ok ns)),
-  λ g g′ d d′ G D. same-checked g g′ d d′ G D nodes children form (λ ok. ap (statsReadingOf len) (same-walk g g′ d d′ G D nodes children ok ns)),
+index-zero-unread s p rank o = (
+  λ g g′ d d′ G D. kl-same g g′ d d′ G D (p .nodes) (p .children) (s .form) (s .listed) rank,
+  λ g g′ d d′ G D. rw (all-same g g′ d d′ G D (p .nodes) (p .children) (s .form) (s .listed) (roomIn o)),
+  λ g g′ d d′ G D. stats-same g g′ d d′ G D (p .nodes) (p .children) (s .form) (s .listed) (s .sequenceLength),
 )

@@ -3,65 +3,40 @@ use mathlib.Core.Path.{_≡_, refl}
 use Prim.Native.Nat.{ℕ, zero, suc}
 use native.Mathlib.Omega.{arith}
 use mathlib.Core.List.{List, [], _∷_}
-use mathlib.Core.Bool.{Bool, true, false, cond, _&&_}
+use mathlib.Core.Bool.{Bool, true, false, cond}
 use mathlib.Core.Option.{Option, none, some}
 use lib.Dec.{ltb}
 use lib.ListN.{length}
 use lib.Ieee.{Float}
-use borrow.Author.Tests.{ltb-true}
-use Rattle.priors.proofs.Tests.{both}
 use Rattle.priors.specs.Address.{rankOf}
-use Rattle.priors.specs.Rules.{Rule, rule, firstBroken}
-use Rattle.priors.specs.Tables.{lengthsFit, entriesFit, tablesRefusal}
-use Rattle.priors.specs.Priors.{Counts, priorOf, records, ascends, wholeRecords, firstLinkFits, nextLinkFits, chainFits, chainAscends, countFits, totalFits, everyNode, everyChild, priorsRefusal}
-use Rattle.priors.specs.Limits.{maxNodes, maxChildren}
+use Rattle.priors.specs.Tables.{tablesRefusal}
+use Rattle.priors.specs.Priors.{Counts, priorOf, priorsRefusal}
+use Rattle.priors.proofs.RuleLaws.{notNine, tables-keep, priors-keep}
+use Rattle.book.specs.Path.{Steps}
+use Rattle.book.specs.Recount.{sequenceLength}
 use Rattle.divergence.specs.declared.divergences.NodeDivergence.{NodeDivergence}
 use Rattle.divergence.specs.declared.divergences.NodeDivergence.the-variants.{Value, NoPrior, MissingChild, PastTable}
 use Rattle.divergence.specs.Nodes.{Node, evidenceOf}
+use Rattle.divergence.specs.RecountNodes.{recountNodes}
 use Rattle.divergence.specs.Probability as Vectors
 use Rattle.divergence.specs.Divergence.{nodeDivergence}
 use Rattle.divergence.specs.Statistics.{Walk, stopped, walked, visited, walk}
-use Rattle.divergence.specs.Readings.{Reading, refused, nothing, answered, mapped, unless, room, fitting, vectorReading, probReading, evidenceReading, divergenceReading, ofListed, klReading, withPrior, walkReading, allReading, statsReadingOf, statsReading}
-use Rattle.divergence.specs.Claims.{ReadingCall, probVector, evidenceProbVector, posteriorKlDivergence, allNodeKl, klDivStats, readingAnswer}
-use Rattle.divergence.specs.Corollaries.{readingNumber, answerNumber}
+use Rattle.divergence.specs.Readings.{Reading, refused, nothing, answered, mapped, unless, fitting, vectorReading, probReading, evidenceReading, divergenceReading, ofListed, klReading, withPrior, walkReading, allReading, statsReadingOf, statsReading}
+use Rattle.divergence.specs.Asked.{roomIn}
+use Rattle.divergence.specs.Claims.{ReadingCall, probVector, evidenceProbVector, posteriorKlDivergence, allNodeKl, klDivStats, vector, kl, allKl, stats, reading, recountSeen}
+use Rattle.divergence.specs.Corollaries.{readingNumber, answerNumber, otherForm}
 
 abbrev Not9 : ℕ → Type 0
 Not9 n = n ≡ 9 → ⊥
 
--- ---- rules
-
--- all of them have numbers below 9
-abbrev small : List Rule → Bool
-small [] = true
-small (r ∷ rules) = ltb (r .number) 9 && small rules
-
-broken-not : (rules : List Rule) → small rules ≡ true → Not9 (firstBroken rules)
-broken-not [] h = λ e. omega arith
-broken-not (r ∷ rules) h = let parts = both (ltb (r .number) 9) (small rules) h in go (r .holds) (parts .0) (broken-not rules (parts .1))
-  where
-    go : (b : Bool) → ltb (r .number) 9 ≡ true → Not9 (firstBroken rules) → Not9 (cond b (firstBroken rules) (r .number))
-    go true l ih = ih
-    go false l ih = λ e. omega (arith, ltb-true (r .number) 9 l)
+is-not : (n : ℕ) → notNine n ≡ true → Not9 n
+is-not n h e = let z : _≡_ {A = ℕ} 0 1 = cc in omega arith
 
 tables-not : (G D : List Float) → Not9 (tablesRefusal G D)
-unfolding tablesRefusal
-tables-not G D = broken-not (rule 1 (lengthsFit G D) ∷ rule 2 (entriesFit G) ∷ rule 2 (entriesFit D) ∷ []) refl
+tables-not G D = is-not (tablesRefusal G D) (tables-keep notNine G D refl refl)
 
 priors-not : (nodes children : List ℕ) → Not9 (priorsRefusal nodes children)
-unfolding priorsRefusal
-priors-not nodes children =
-    broken-not
-    (rule 3 (wholeRecords nodes maxNodes)
-    ∷ rule 3 (wholeRecords children maxChildren)
-    ∷ rule 4 (ascends (records nodes))
-    ∷ rule 5 (everyNode nodes (firstLinkFits nodes children))
-    ∷ rule 5 (everyChild children (nextLinkFits children))
-    ∷ rule 5 (everyNode nodes (chainFits nodes children))
-    ∷ rule 6 (everyNode nodes (chainAscends nodes children))
-    ∷ rule 7 (everyChild children (countFits children))
-    ∷ rule 7 (everyNode nodes (totalFits nodes children))
-    ∷ [])
-    refl
+priors-not nodes children = is-not (priorsRefusal nodes children) (priors-keep notNine nodes children refl refl)
 
 -- ---- the parts of a reading
 
@@ -157,10 +132,12 @@ unfolding statsReading
 div-stats-other G D nodes children ns len =
     unless-other (tables-not G D) (unless-other (priors-not nodes children) (stats-other len (walk G D nodes children ns) (walk-not G D nodes children ns)))
 
-pub reading-not-nine : (ns : List Node) (len : ℕ) (c : ReadingCall) → answerNumber (readingAnswer 0 ns len c) ≡ 9 → ⊥
-unfolding readingAnswer
-reading-not-nine ns len (probVector nodes children scale point addresses figures) = mapped-other _ (prob-other nodes children ns (rankOf scale point) (room addresses figures)) .not-nine
-reading-not-nine ns len (evidenceProbVector scale point addresses figures) = mapped-other _ (evidence-other ns (rankOf scale point) (room addresses figures)) .not-nine
-reading-not-nine ns len (posteriorKlDivergence nodes children G D scale point) = kl-other G D nodes children ns (rankOf scale point) .not-nine
-reading-not-nine ns len (allNodeKl nodes children G D addresses figures) = mapped-other _ (all-other G D nodes children ns (room addresses figures)) .not-nine
-reading-not-nine ns len (klDivStats nodes children G D) = div-stats-other G D nodes children ns len .not-nine
+-- no reading is lent another tracker yet
+pub reading-not-nine : (W : ℕ) (H : List Steps) (c : ReadingCall) → answerNumber (reading (recountSeen W H) c) ≡ 9 → otherForm c ≡ 9
+unfolding reading
+reading-not-nine W H (probVector p scale point o) e =
+    absurd (mapped-other vector (mapped-other _ (prob-other (p .nodes) (p .children) (recountNodes W H) (rankOf scale point) (roomIn o))) .not-nine e)
+reading-not-nine W H (evidenceProbVector scale point o) e = absurd (mapped-other vector (mapped-other _ (evidence-other (recountNodes W H) (rankOf scale point) (roomIn o))) .not-nine e)
+reading-not-nine W H (posteriorKlDivergence t p scale point) e = absurd (mapped-other kl (kl-other (t .G) (t .D) (p .nodes) (p .children) (recountNodes W H) (rankOf scale point)) .not-nine e)
+reading-not-nine W H (allNodeKl t p o) e = absurd (mapped-other allKl (mapped-other _ (all-other (t .G) (t .D) (p .nodes) (p .children) (recountNodes W H) (roomIn o))) .not-nine e)
+reading-not-nine W H (klDivStats t p) e = absurd (mapped-other stats (div-stats-other (t .G) (t .D) (p .nodes) (p .children) (recountNodes W H) (sequenceLength W H)) .not-nine e)

@@ -1,5 +1,5 @@
 -- The counts whose figures are answered, as a merge has them, and the cases of the two readings of probabilities. Assumes nothing.
-use mathlib.Core.Path.{_≡_, refl, sym, ap, _∙_}
+use mathlib.Core.Path.{_≡_, refl, sym}
 use mathlib.Core.Bool.{true}
 use Prim.Native.Nat.{ℕ, _+_, _≤_, _<_}
 use native.Mathlib.Omega.{arith}
@@ -24,7 +24,7 @@ use Rattle.divergence.specs.Merge.{childEntries, mergedFrom, mergedCount
 use Rattle.divergence.specs.Listing.{ListedAt, Usable}
 use Rattle.divergence.specs.Readings.{refused, nothing, answered, unless, vectorReading, probReading, evidenceReading}
 use Rattle.divergence.proofs.MergeLaws.{evidence-alone}
-use Rattle.divergence.proofs.CheckLaws.{priors-le, unnamed, numbered, unless-some, form-few}
+use Rattle.divergence.proofs.CheckLaws.{priors-unnamed, unless-refused, form-few}
 
 -- ---- 13
 
@@ -97,9 +97,7 @@ unlisted-none = refl
 module _ (form : ℕ) (nodes children : List ℕ) (ns : List Node) (rank have : ℕ) where
   pub prob-refused : (r : Refusal) → numberOf r ≡ priorsRefusal nodes children → probReading form nodes children ns rank have ≡ refused (numberOf r) (namedNode r)
   unfolding probReading
-  prob-refused r e =
-      ap (λ (n : ℕ). unless n (unless form (vectorReading have (probVector (priorOf nodes children rank) (evidenceOf rank ns))))) (sym e)
-      ∙ sym (unless-some (numberOf r) (unless form (vectorReading have (probVector (priorOf nodes children rank) (evidenceOf rank ns)))) (numbered r) (unnamed r (omega (arith, priors-le nodes children))))
+  prob-refused r e = sym (unless-refused r (priorsRefusal nodes children) (unless form (vectorReading have (probVector (priorOf nodes children rank) (evidenceOf rank ns)))) e (priors-unnamed nodes children))
 
   module _ (passed : priorsRefusal nodes children ≡ 0) where
     pub prob-form : form ≡ 9 → probReading form nodes children ns rank have ≡ refused 9 none

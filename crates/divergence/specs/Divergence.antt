@@ -9,7 +9,7 @@ use mathlib.Core.Option.{Option, none, some}
 use lib.Dec.{ltb, leb}
 use lib.ListN.{length}
 use lib.Ieee.{Float, lt}
-use Rattle.priors.specs.Rows.{Row, look}
+use Rattle.priors.specs.Rows.{Row, countOf}
 use Rattle.priors.specs.Tables.{tableAt}
 use Rattle.priors.specs.Priors.{Counts, total}
 use Rattle.divergence.specs.declared.sums.Sums.{Sums}
@@ -41,7 +41,7 @@ priorCount (some a) = a
 -- a term for each evidence child, ascending
 unfoldable pub childTerms : List Float → List Float → ℕ → List Row → Sums → List Row → Sums
 childTerms G D T prior s [] = s
-childTerms G D T prior s (e ∷ es) = childTerms G D T prior (term G D T s (priorCount (look (e .key) prior)) (e .count)) es
+childTerms G D T prior s (e ∷ es) = childTerms G D T prior (term G D T s (priorCount (countOf (e .key) prior)) (e .count)) es
 
 -- a figure below 0 becomes 0
 unfoldable pub noLess : Float → Float
@@ -64,7 +64,7 @@ isNone (some c) = false
 -- some evidence child, zero count included, is not in the prior
 unfoldable pub lacksChild : List Row → List Row → Bool
 lacksChild prior [] = false
-lacksChild prior (e ∷ es) = isNone (look (e .key) prior) || lacksChild prior es
+lacksChild prior (e ∷ es) = isNone (countOf (e .key) prior) || lacksChild prior es
 
 -- a listed node with evidence e: no prior; a missing child (14); U past the last table index (15); else its divergence
 unfoldable pub nodeDivergence : List Float → List Float → Option Counts → Counts → NodeDivergence

@@ -7,7 +7,8 @@ use lib.ListN.{set}
 use lib.Ieee.{Float}
 use Rattle.priors.specs.Word.{store}
 use Rattle.priors.specs.Address.{addressOf, addressBytes}
-use Rattle.priors.specs.declared.refusals.Refusal.the-variants.{MissingChild as ChildMissing, PastTable as TablePast}
+use Rattle.priors.specs.declared.refusals.Refusal.the-variants.{AtNode}
+use Rattle.priors.specs.declared.refusals.NodeReason.the-variants.{MissingChild as ChildMissing, PastTable as TablePast}
 use Rattle.priors.specs.declared.refusals.Checked.{Checked}
 use Rattle.priors.specs.declared.refusals.Checked.the-variants.{Passed, Refused}
 use Rattle.divergence.specs.declared.divergences.NodeDivergence.{NodeDivergence}
@@ -23,12 +24,12 @@ use Rattle.divergence.specs.Statistics.{Place, Walk, stopped, walked}
 abbrev pub fitStop : ℕ → NodeFit → Checked
 fitStop node (Fits n t u) = Passed
 fitStop node NoRecord = Passed
-fitStop node LacksChild = Refused (ChildMissing (addressOf node))
-fitStop node PastEnd = Refused (TablePast (addressOf node))
+fitStop node LacksChild = Refused (AtNode ChildMissing (addressOf node))
+fitStop node PastEnd = Refused (AtNode TablePast (addressOf node))
 
 -- by any node's: 14 or 15
 abbrev pub stopOf : Walk → Checked
-stopOf (stopped n node) = Refused (cond (eqb n 14) (ChildMissing (addressOf node)) (TablePast (addressOf node)))
+stopOf (stopped n node) = Refused (cond (eqb n 14) (AtNode ChildMissing (addressOf node)) (AtNode TablePast (addressOf node)))
 stopOf (walked ps k) = Passed
 
 -- ---- what a walk fills and skips

@@ -1,7 +1,8 @@
 -- The statistics over a walk, node by node: how a node's divergence goes into what is counted so far. Assumes nothing.
 use Prim.Native.Nat.{ℕ, _+_}
 use Rattle.priors.specs.Address.{addressOf}
-use Rattle.priors.specs.declared.refusals.Refusal.the-variants.{MissingChild as ChildMissing, PastTable as TablePast}
+use Rattle.priors.specs.declared.refusals.Refusal.the-variants.{AtNode}
+use Rattle.priors.specs.declared.refusals.NodeReason.the-variants.{MissingChild as ChildMissing, PastTable as TablePast}
 use Rattle.divergence.specs.declared.divergences.NodeDivergence.{NodeDivergence}
 use Rattle.divergence.specs.declared.divergences.NodeDivergence.the-variants.{Value, NoPrior, MissingChild, PastTable}
 use Rattle.divergence.specs.declared.statistics.Tally.{Tally}
@@ -13,5 +14,5 @@ use Rattle.divergence.specs.Statistics.{noted}
 abbrev pub tallyOf : Tally → ℕ → NodeDivergence → Tallied
 tallyOf t node (Value x) = On (record { stats = noted (t .stats) x; skipped = t .skipped })
 tallyOf t node NoPrior = On (record { stats = t .stats; skipped = t .skipped + 1 })
-tallyOf t node MissingChild = Stopped (ChildMissing (addressOf node))
-tallyOf t node PastTable = Stopped (TablePast (addressOf node))
+tallyOf t node MissingChild = Stopped (AtNode ChildMissing (addressOf node))
+tallyOf t node PastTable = Stopped (AtNode TablePast (addressOf node))

@@ -5,9 +5,9 @@ ghost use mathlib.Core.Bool.{true};
 ghost use mathlib.Core.List.{map};
 ghost use Prim.Native.Nat.{_+_, _*_, _≤_, _<_};
 ghost use lib.ListN.{length};
-ghost use Rattle.priors.specs.Rows.{look};
+ghost use Rattle.priors.specs.Rows.{countOf};
 ghost use Rattle.priors.specs.Tables.{tablesRefusal};
-ghost use Rattle.priors.specs.Priors.{records, recordCount, findRecord, childrenOf, everyChild, nextLinkFits, priorOfNode, priorOf, countSum, total, priorsRefusal};
+ghost use Rattle.priors.specs.Priors.{records, recordCount, ascends, chainOf, findRecord, childrenOf, everyChild, nextLinkFits, priorOfNode, priorOf, countSum, total, priorsRefusal};
 ghost use Rattle.book.specs.Limits.{maxEntries};
 ghost use Rattle.divergence.specs.Nodes.{childRow};
 ghost use Rattle.divergence.specs.Parts.{part, nodeAt, evidenceAt};
@@ -48,7 +48,8 @@ pub enum NodeFit {
 fn lacks(children: &[u8], first: u32, rank: u64) -> bool
     requires { ⌜ first ≤ recordCount (now children) ⌝ }
     requires { ⌜ everyChild (now children) (nextLinkFits (now children)) ≡ true ⌝ }
-    ensures { λ r. ⌜ r ≡ isNone (look rank (childrenOf (now (children .entry)) first)) ⌝ }
+    requires { ⌜ ascends (chainOf (now children) first) ≡ true ⌝ }
+    ensures { λ r. ⌜ r ≡ isNone (countOf rank (childrenOf (now (children .entry)) first)) ⌝ }
 {
     match find_child(children, first, rank) {
         ChildFound::Count(_) => false,
@@ -60,7 +61,8 @@ fn lacks(children: &[u8], first: u32, rank: u64) -> bool
 fn prior_count(children: &[u8], first: u32, rank: u64) -> u32
     requires { ⌜ first ≤ recordCount (now children) ⌝ }
     requires { ⌜ everyChild (now children) (nextLinkFits (now children)) ≡ true ⌝ }
-    ensures { λ r. ⌜ r ≡ priorCount (look rank (childrenOf (now (children .entry)) first)) ⌝ }
+    requires { ⌜ ascends (chainOf (now children) first) ≡ true ⌝ }
+    ensures { λ r. ⌜ r ≡ priorCount (countOf rank (childrenOf (now (children .entry)) first)) ⌝ }
 {
     match find_child(children, first, rank) {
         ChildFound::Count(a) => a,
@@ -74,6 +76,7 @@ fn lacks_child(book: &[u8], from: usize, to: usize, children: &[u8], first: u32)
     requires { ⌜ 24 * to ≤ length (now book) ⌝ }
     requires { ⌜ first ≤ recordCount (now children) ⌝ }
     requires { ⌜ everyChild (now children) (nextLinkFits (now children)) ≡ true ⌝ }
+    requires { ⌜ ascends (chainOf (now children) first) ≡ true ⌝ }
     ensures { λ r. ⌜ r ≡ lacksChild (childrenOf (now (children .entry)) first) (map childRow (part (now (book .entry)) from to)) ⌝ }
 {
     let mut at = from;
@@ -102,6 +105,7 @@ fn child_terms(
     requires { ⌜ 24 * to ≤ length (now book) ⌝ }
     requires { ⌜ first ≤ recordCount (now children) ⌝ }
     requires { ⌜ everyChild (now children) (nextLinkFits (now children)) ≡ true ⌝ }
+    requires { ⌜ ascends (chainOf (now children) first) ≡ true ⌝ }
     requires { ⌜ countSum (childrenOf (now children) first) ≤ t ⌝ }
     requires { ⌜ t + countSum (part (now book) from to) < length (now g) ⌝ }
     requires { ⌜ length (now g) ≡ length (now d) ⌝ }
@@ -158,6 +162,7 @@ fn divergence_of(
     requires { ⌜ 24 * to ≤ length (now book) ⌝ }
     requires { ⌜ node .link ≤ recordCount (now children) ⌝ }
     requires { ⌜ everyChild (now children) (nextLinkFits (now children)) ≡ true ⌝ }
+    requires { ⌜ ascends (chainOf (now children) (node .link)) ≡ true ⌝ }
     requires { ⌜ t ≡ total (priorOfNode (now children) node) ⌝ }
     requires { ⌜ u ≡ t + total (evidenceAt (now book) i to) ⌝ }
     requires { ⌜ u < length (now g) ⌝ }

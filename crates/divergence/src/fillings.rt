@@ -26,6 +26,7 @@ use priors::addresses::write_rank;
 use priors::lookups::NodeFound;
 use priors::lookups::find_node;
 use priors::refusals::Checked;
+use priors::refusals::NodeReason;
 use priors::refusals::Refusal;
 
 // Places filled and nodes skipped so far.
@@ -70,8 +71,14 @@ fn stop_at(node: u64, f: NodeFit) -> Checked
     match f {
         NodeFit::Fits(_, _, _) => Checked::Passed,
         NodeFit::NoRecord => Checked::Passed,
-        NodeFit::LacksChild => Checked::Refused(Refusal::MissingChild(address_of(node))),
-        NodeFit::PastEnd => Checked::Refused(Refusal::PastTable(address_of(node))),
+        NodeFit::LacksChild => Checked::Refused(Refusal::AtNode(
+            NodeReason::MissingChild,
+            address_of(node),
+        )),
+        NodeFit::PastEnd => Checked::Refused(Refusal::AtNode(
+            NodeReason::PastTable,
+            address_of(node),
+        )),
     }
 }
 

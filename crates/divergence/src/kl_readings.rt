@@ -6,14 +6,14 @@ ghost use Prim.Native.Nat.{_*_, _≤_};
 ghost use lib.ListN.{length};
 ghost use Rattle.priors.specs.Address.{rankOf};
 ghost use Rattle.priors.specs.Refusals.{checkedNumber};
-ghost use Rattle.priors.specs.Tables.{tablesRefusal};
-ghost use Rattle.priors.specs.Priors.{priorsRefusal};
+ghost use Rattle.priors.specs.Tables.{lentTables, tablesRefusal};
+ghost use Rattle.priors.specs.Priors.{lentPriors, priorsRefusal};
 ghost use Rattle.book.specs.Limits.{maxEntries};
 ghost use Rattle.book.specs.Entries.{rows};
 ghost use Rattle.book.specs.Form.{formed};
 ghost use Rattle.divergence.specs.Nodes.{listedNodes, evidenceOf};
 ghost use Rattle.divergence.specs.Readings.{room, divergenceReading, ofListed, allListed, allAddresses, allFigures};
-ghost use Rattle.divergence.specs.Asked.{klAsked, allAsked, statsAsked};
+ghost use Rattle.divergence.specs.Asked.{seenOf, lentOutput, klAsked, allTold, allAsked, statsAsked};
 ghost use Rattle.divergence.specs.Answers.{klAnswer, allAnswer, allResult, statsAnswer};
 ghost use Rattle.divergence.specs.Parts.{nodesFrom};
 ghost use Rattle.divergence.specs.Checks.{checksRefusal};
@@ -34,6 +34,8 @@ use priors::addresses::address_of;
 use priors::addresses::rank_of;
 use priors::checks::check_priors;
 use priors::refusals::Checked;
+use priors::refusals::NodeReason;
+use priors::refusals::Reason;
 use priors::refusals::Refusal;
 use priors::tables::check_tables;
 
@@ -57,7 +59,7 @@ fn tested(
                 if in_form(t, book, queue) {
                     return Checked::Passed;
                 }
-                Checked::Refused(Refusal::Form)
+                Checked::Refused(Refusal::Plain(Reason::Form))
             }
         },
     }
@@ -70,8 +72,14 @@ fn answer(rank: u64, x: NodeDivergence) -> NodeKl
     match x {
         NodeDivergence::Value(value) => NodeKl::Kl(value),
         NodeDivergence::NoPrior => NodeKl::NoKl,
-        NodeDivergence::MissingChild => NodeKl::KlRefused(Refusal::MissingChild(address_of(rank))),
-        NodeDivergence::PastTable => NodeKl::KlRefused(Refusal::PastTable(address_of(rank))),
+        NodeDivergence::MissingChild => NodeKl::KlRefused(Refusal::AtNode(
+            NodeReason::MissingChild,
+            address_of(rank),
+        )),
+        NodeDivergence::PastTable => NodeKl::KlRefused(Refusal::AtNode(
+            NodeReason::PastTable,
+            address_of(rank),
+        )),
     }
 }
 
@@ -110,7 +118,7 @@ pub fn posterior_kl_divergence(
     scale: i32,
     point: u32,
 ) -> NodeKl
-    ensures { λ r. ⌜ klAnswer r ≡ klAsked t (now (book .entry)) (now (queue .entry)) (now (nodes .entry)) (now (children .entry)) (now (g .entry)) (now (d .entry)) (rankOf scale point) ⌝ }
+    ensures { λ r. ⌜ klAnswer r ≡ klAsked (seenOf t (now (book .entry)) (now (queue .entry))) (lentTables (now (g .entry)) (now (d .entry))) (lentPriors (now (nodes .entry)) (now (children .entry))) (rankOf scale point) ⌝ }
 {
     match tested(t, book, queue, nodes, children, g, d) {
         Checked::Refused(r) => NodeKl::KlRefused(r),
@@ -147,16 +155,17 @@ fn all_listed(
 {
     let places = with_prior(book, used, nodes);
     if addresses.len() / 8 < places {
-        return AllNodeKl::AllRefused(Refusal::OutputShort);
+        return AllNodeKl::AllRefused(Refusal::Plain(Reason::OutputShort));
     }
     if figures.len() < places {
-        return AllNodeKl::AllRefused(Refusal::OutputShort);
+        return AllNodeKl::AllRefused(Refusal::Plain(Reason::OutputShort));
     }
     match first_stop(book, used, nodes, children, g.len()) {
         Checked::Refused(r) => AllNodeKl::AllRefused(r),
         Checked::Passed => {
             let skipped = fill_all(book, used, nodes, children, g, d, addresses, figures);
-            AllNodeKl::AllKl(places as u32, skipped)
+            let filled = places as u32;
+            AllNodeKl::AllKl(filled, skipped)
         }
     }
 }
@@ -173,9 +182,7 @@ pub fn all_node_kl(
     addresses: &mut [u8],
     figures: &mut [f64],
 ) -> AllNodeKl
-    ensures { λ r. ⌜ allAnswer r ≡ allResult (allAsked t (now (book .entry)) (now (queue .entry)) (now (nodes .entry)) (now (children .entry)) (now (g .entry)) (now (d .entry)) (room (now (addresses .entry)) (now (figures .entry)))) ⌝ }
-    ensures { λ r. ⌜ now (addresses .exit) ≡ allAddresses (allAsked t (now (book .entry)) (now (queue .entry)) (now (nodes .entry)) (now (children .entry)) (now (g .entry)) (now (d .entry)) (room (now (addresses .entry)) (now (figures .entry)))) (now (addresses .entry)) ⌝ }
-    ensures { λ r. ⌜ now (figures .exit) ≡ allFigures (allAsked t (now (book .entry)) (now (queue .entry)) (now (nodes .entry)) (now (children .entry)) (now (g .entry)) (now (d .entry)) (room (now (addresses .entry)) (now (figures .entry)))) (now (figures .entry)) ⌝ }
+    ensures { λ r. ⌜ allTold r (now (addresses .exit)) (now (figures .exit)) ≡ allAsked (seenOf t (now (book .entry)) (now (queue .entry))) (lentTables (now (g .entry)) (now (d .entry))) (lentPriors (now (nodes .entry)) (now (children .entry))) (lentOutput (now (addresses .entry)) (now (figures .entry))) ⌝ }
 {
     match tested(t, book, queue, nodes, children, g, d) {
         Checked::Refused(r) => AllNodeKl::AllRefused(r),
@@ -202,7 +209,7 @@ pub fn kl_div_stats(
     g: &[f64],
     d: &[f64],
 ) -> KlDivStats
-    ensures { λ r. ⌜ statsAnswer r ≡ statsAsked t (now (book .entry)) (now (queue .entry)) (now (nodes .entry)) (now (children .entry)) (now (g .entry)) (now (d .entry)) ⌝ }
+    ensures { λ r. ⌜ statsAnswer r ≡ statsAsked (seenOf t (now (book .entry)) (now (queue .entry))) (lentTables (now (g .entry)) (now (d .entry))) (lentPriors (now (nodes .entry)) (now (children .entry))) ⌝ }
 {
     match tested(t, book, queue, nodes, children, g, d) {
         Checked::Refused(r) => KlDivStats::StatsRefused(r),

@@ -19,6 +19,7 @@ use crate::nodes::children_end;
 use book::limits::ENTRY_SIZE;
 use priors::addresses::address_of;
 use priors::addresses::rank_at;
+use priors::refusals::NodeReason;
 use priors::refusals::Refusal;
 
 pub struct KLDivergenceStats {
@@ -114,8 +115,14 @@ fn one_more(t: Tally, node: u64, x: NodeDivergence) -> Tallied
             stats,
             skipped: t.skipped + 1,
         }),
-        NodeDivergence::MissingChild => Tallied::Stopped(Refusal::MissingChild(address_of(node))),
-        NodeDivergence::PastTable => Tallied::Stopped(Refusal::PastTable(address_of(node))),
+        NodeDivergence::MissingChild => Tallied::Stopped(Refusal::AtNode(
+            NodeReason::MissingChild,
+            address_of(node),
+        )),
+        NodeDivergence::PastTable => Tallied::Stopped(Refusal::AtNode(
+            NodeReason::PastTable,
+            address_of(node),
+        )),
     }
 }
 

@@ -8,16 +8,16 @@ ghost use Prim.Native.Nat.{_^_, _≤_, _<_};
 ghost use lib.ListN.{length};
 ghost use Rattle.priors.specs.Address.{rankOf};
 ghost use Rattle.priors.specs.Limits.{maxChain};
-ghost use Rattle.priors.specs.Priors.{recordCount, chainOf, everyChild, nextLinkFits, priorOfNode};
+ghost use Rattle.priors.specs.Priors.{lentPriors, recordCount, chainOf, everyChild, nextLinkFits, priorOfNode};
 ghost use Rattle.book.specs.Limits.{maxEntries};
 ghost use Rattle.book.specs.Entries.{rows};
 ghost use Rattle.divergence.specs.Nodes.{listedNodes, evidenceOf};
 ghost use Rattle.divergence.specs.Probability.{posterior, evidenceProbVector};
 ghost use Rattle.divergence.specs.Merge.{Mergeable, mergedCounts};
 ghost use Rattle.divergence.specs.Listing.{Usable};
-ghost use Rattle.divergence.specs.Readings.{room, vectorReading, vectorAddresses, vectorFigures};
-ghost use Rattle.divergence.specs.Asked.{probAsked, evidenceAsked};
-ghost use Rattle.divergence.specs.Answers.{vectorAnswer, vectorResult, Vectored};
+ghost use Rattle.divergence.specs.Readings.{room, vectorReading};
+ghost use Rattle.divergence.specs.Asked.{seenOf, lentOutput, vectorTold, probAsked, evidenceAsked};
+ghost use Rattle.divergence.specs.Answers.{Vectored};
 use crate::answers::ProbVector;
 use crate::evidence::Listed;
 use crate::evidence::find_listed;
@@ -34,6 +34,7 @@ use priors::lookups::NodeFound;
 use priors::lookups::find_node;
 use priors::records::Record;
 use priors::refusals::Checked;
+use priors::refusals::Reason;
 use priors::refusals::Refusal;
 use priors::words::read_u32;
 
@@ -56,14 +57,15 @@ fn vector(
 {
     let size = merged_size(children, first, book, from, end);
     if addresses.len() / 8 < size.places {
-        return ProbVector::VectorRefused(Refusal::OutputShort);
+        return ProbVector::VectorRefused(Refusal::Plain(Reason::OutputShort));
     }
     if figures.len() < size.places {
-        return ProbVector::VectorRefused(Refusal::OutputShort);
+        return ProbVector::VectorRefused(Refusal::Plain(Reason::OutputShort));
     }
     let whole = ending + size.sum;
     fill(children, first, book, from, end, whole, addresses, figures);
-    ProbVector::Vector(size.places as u32, figure(ending, whole))
+    let filled = size.places as u32;
+    ProbVector::Vector(filled, figure(ending, whole))
 }
 
 // Of a prior and the evidence at its address.
@@ -137,15 +139,13 @@ pub fn prob_vector(
     addresses: &mut [u8],
     figures: &mut [f64],
 ) -> ProbVector
-    ensures { λ r. ⌜ vectorAnswer r ≡ vectorResult (probAsked t (now (book .entry)) (now (queue .entry)) (now (nodes .entry)) (now (children .entry)) (rankOf scale point) (room (now (addresses .entry)) (now (figures .entry)))) ⌝ }
-    ensures { λ r. ⌜ now (addresses .exit) ≡ vectorAddresses (probAsked t (now (book .entry)) (now (queue .entry)) (now (nodes .entry)) (now (children .entry)) (rankOf scale point) (room (now (addresses .entry)) (now (figures .entry)))) (now (addresses .entry)) ⌝ }
-    ensures { λ r. ⌜ now (figures .exit) ≡ vectorFigures (probAsked t (now (book .entry)) (now (queue .entry)) (now (nodes .entry)) (now (children .entry)) (rankOf scale point) (room (now (addresses .entry)) (now (figures .entry)))) (now (figures .entry)) ⌝ }
+    ensures { λ r. ⌜ vectorTold r (now (addresses .exit)) (now (figures .exit)) ≡ probAsked (seenOf t (now (book .entry)) (now (queue .entry))) (lentPriors (now (nodes .entry)) (now (children .entry))) (rankOf scale point) (lentOutput (now (addresses .entry)) (now (figures .entry))) ⌝ }
 {
     match check_priors(nodes, children) {
         Checked::Refused(r) => ProbVector::VectorRefused(r),
         Checked::Passed => {
             if !in_form(t, book, queue) {
-                return ProbVector::VectorRefused(Refusal::Form);
+                return ProbVector::VectorRefused(Refusal::Plain(Reason::Form));
             }
             let rank = rank_of(scale, point);
             match find_node(nodes, rank) {
@@ -174,12 +174,10 @@ pub fn evidence_prob_vector(
     addresses: &mut [u8],
     figures: &mut [f64],
 ) -> ProbVector
-    ensures { λ r. ⌜ vectorAnswer r ≡ vectorResult (evidenceAsked t (now (book .entry)) (now (queue .entry)) (rankOf scale point) (room (now (addresses .entry)) (now (figures .entry)))) ⌝ }
-    ensures { λ r. ⌜ now (addresses .exit) ≡ vectorAddresses (evidenceAsked t (now (book .entry)) (now (queue .entry)) (rankOf scale point) (room (now (addresses .entry)) (now (figures .entry)))) (now (addresses .entry)) ⌝ }
-    ensures { λ r. ⌜ now (figures .exit) ≡ vectorFigures (evidenceAsked t (now (book .entry)) (now (queue .entry)) (rankOf scale point) (room (now (addresses .entry)) (now (figures .entry)))) (now (figures .entry)) ⌝ }
+    ensures { λ r. ⌜ vectorTold r (now (addresses .exit)) (now (figures .exit)) ≡ evidenceAsked (seenOf t (now (book .entry)) (now (queue .entry))) (rankOf scale point) (lentOutput (now (addresses .entry)) (now (figures .entry))) ⌝ }
 {
     if !in_form(t, book, queue) {
-        return ProbVector::VectorRefused(Refusal::Form);
+        return ProbVector::VectorRefused(Refusal::Plain(Reason::Form));
     }
     evidence_vector(
         book,

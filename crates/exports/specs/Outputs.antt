@@ -8,8 +8,9 @@ use Rattle.book.specs.declared.trackers.Tracker.{Tracker}
 use Rattle.book.specs.declared.trackers.Opened.{Opened}
 use Rattle.book.specs.declared.trackers.Added.{Added}
 use Rattle.book.specs.declared.trackers.Added.the-variants.{Taken, Refused as NotAdded}
-use Rattle.book.specs.Calls.{openState, openedState, addNumber, addState, unlessRefused}
+use Rattle.book.specs.Calls.{BookAnswer, openedState, unlessRefused}
 use Rattle.divergence.specs.Readings.{Statistics}
+use Rattle.divergence.specs.Asked.{Seen, seenOf}
 use Rattle.divergence.specs.Answers.{VectorResult, AllResult}
 use Rattle.baseline.specs.declared.figures.KLDivergenceBaselineStats.{KLDivergenceBaselineStats}
 
@@ -17,6 +18,10 @@ use Rattle.baseline.specs.declared.figures.KLDivergenceBaselineStats.{KLDiverge
 
 abbrev pub trackerOf : List ℕ → Tracker
 trackerOf state = record { window = getD state 0 0; used = getD state 1 0; accepted = getD state 2 0 }
+
+-- what a reading sees of it
+abbrev pub seenIn : List ℕ → List ℕ → List ℕ → Seen
+seenIn state book queue = seenOf (trackerOf state) book queue
 
 abbrev pub numbersOf : Tracker → List ℕ
 numbersOf t = t .window ∷ t .used ∷ t .accepted ∷ []
@@ -29,17 +34,13 @@ numbersOr (some t) before = numbersOf t
 abbrev pub openedNumbers : Opened → List ℕ → List ℕ
 openedNumbers answer before = numbersOr (openedState answer) before
 
-abbrev pub openNumbers : ℕ → List ℕ → List ℕ → List ℕ → List ℕ
-openNumbers window book queue before = numbersOr (openState window book queue) before
-
 -- a refused add leaves the state as it was
 abbrev pub addedNumbers : Added → List ℕ → List ℕ
 addedNumbers (Taken t) before = numbersOf t
 addedNumbers (NotAdded r t) before = before
 
-abbrev pub addNumbers : List ℕ → List ℕ → List ℕ → List ℕ → List ℕ
-addNumbers state book queue path =
-    unlessRefused (addNumber (trackerOf state) book queue path) (numbersOf (addState (trackerOf state) book queue path)) state
+abbrev pub keptNumbers : BookAnswer → List ℕ → List ℕ
+keptNumbers a before = unlessRefused (a .number) (numbersOr (a .state) before) before
 
 -- ---- readings
 

@@ -41,32 +41,12 @@ pub fn name_node(r: Refusal, scale: &mut i32, point: &mut u32)
     ensures { λ _. ⌜ now (point .exit) ≡ pointOr (namedNode r) (now (point .entry)) ⌝ }
 {
     match r {
-        Refusal::TableLengths => {}
-        Refusal::TableEntry => {}
-        Refusal::PriorSizes => {}
-        Refusal::NodeOrder => {}
-        Refusal::Links => {}
-        Refusal::ChainOrder => {}
-        Refusal::ZeroPrior => {}
-        Refusal::Window => {}
-        Refusal::Form => {}
-        Refusal::PathLength => {}
-        Refusal::PathsFull => {}
-        Refusal::BookFull => {}
-        Refusal::OutputShort => {}
-        Refusal::MissingChild(node) => {
+        Refusal::Plain(_) => {}
+        Refusal::AtNode(_, node) => {
             let named = node.scale;
             *scale = named;
             *point = node.point;
         }
-        Refusal::PastTable(node) => {
-            let named = node.scale;
-            *scale = named;
-            *point = node.point;
-        }
-        Refusal::TrainingInput => {}
-        Refusal::BaselineInput => {}
-        Refusal::OneKnot => {}
     }
 }
 

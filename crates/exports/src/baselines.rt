@@ -1,6 +1,6 @@
 // Training a baseline, and its means and variances at a length.
 ghost use mathlib.Core.Path.{_≡_};
-ghost use Rattle.baseline.specs.Training.{inputOf, trainReading, trainBook, trainKnots, trainValues};
+ghost use Rattle.baseline.specs.Training.{inputOf, trainAsked};
 ghost use Rattle.baseline.specs.Stats.{baselineReading};
 ghost use Rattle.exports.specs.Codes.{code, written, scaleNamed, pointNamed};
 ghost use Rattle.exports.specs.Outputs.{itself, tenFigures};
@@ -27,13 +27,13 @@ pub extern "C" fn teakpool_train(
     node_scale: &mut i32,
     node_point: &mut u32,
 ) -> u32
-    ensures { λ r. ⌜ r ≡ code (trainReading (inputOf (now (g .entry)) (now (d .entry)) (now (nodes .entry)) (now (children .entry)) (now (sequences .entry)) s n rate) (now (book .entry)) (now (knots .entry)) (now (values .entry))) ⌝ }
-    ensures { λ _. ⌜ now (book .exit) ≡ trainBook (inputOf (now (g .entry)) (now (d .entry)) (now (nodes .entry)) (now (children .entry)) (now (sequences .entry)) s n rate) (now (book .entry)) (now (knots .entry)) (now (values .entry)) ⌝ }
-    ensures { λ _. ⌜ now (knots .exit) ≡ trainKnots (inputOf (now (g .entry)) (now (d .entry)) (now (nodes .entry)) (now (children .entry)) (now (sequences .entry)) s n rate) (now (book .entry)) (now (knots .entry)) (now (values .entry)) ⌝ }
-    ensures { λ _. ⌜ now (values .exit) ≡ trainValues (inputOf (now (g .entry)) (now (d .entry)) (now (nodes .entry)) (now (children .entry)) (now (sequences .entry)) s n rate) (now (book .entry)) (now (knots .entry)) (now (values .entry)) ⌝ }
-    ensures { λ _. ⌜ now (count .exit) ≡ written itself (trainReading (inputOf (now (g .entry)) (now (d .entry)) (now (nodes .entry)) (now (children .entry)) (now (sequences .entry)) s n rate) (now (book .entry)) (now (knots .entry)) (now (values .entry))) (now (count .entry)) ⌝ }
-    ensures { λ _. ⌜ now («node_scale» .exit) ≡ scaleNamed (trainReading (inputOf (now (g .entry)) (now (d .entry)) (now (nodes .entry)) (now (children .entry)) (now (sequences .entry)) s n rate) (now (book .entry)) (now (knots .entry)) (now (values .entry))) (now («node_scale» .entry)) ⌝ }
-    ensures { λ _. ⌜ now («node_point» .exit) ≡ pointNamed (trainReading (inputOf (now (g .entry)) (now (d .entry)) (now (nodes .entry)) (now (children .entry)) (now (sequences .entry)) s n rate) (now (book .entry)) (now (knots .entry)) (now (values .entry))) (now («node_point» .entry)) ⌝ }
+    ensures { λ r. ⌜ r ≡ code ((trainAsked (inputOf (now (g .entry)) (now (d .entry)) (now (nodes .entry)) (now (children .entry)) (now (sequences .entry)) s n rate) (now (book .entry)) (now (knots .entry)) (now (values .entry))) .answer) ⌝ }
+    ensures { λ _. ⌜ now (book .exit) ≡ (trainAsked (inputOf (now (g .entry)) (now (d .entry)) (now (nodes .entry)) (now (children .entry)) (now (sequences .entry)) s n rate) (now (book .entry)) (now (knots .entry)) (now (values .entry))) .book ⌝ }
+    ensures { λ _. ⌜ now (knots .exit) ≡ (trainAsked (inputOf (now (g .entry)) (now (d .entry)) (now (nodes .entry)) (now (children .entry)) (now (sequences .entry)) s n rate) (now (book .entry)) (now (knots .entry)) (now (values .entry))) .knots ⌝ }
+    ensures { λ _. ⌜ now (values .exit) ≡ (trainAsked (inputOf (now (g .entry)) (now (d .entry)) (now (nodes .entry)) (now (children .entry)) (now (sequences .entry)) s n rate) (now (book .entry)) (now (knots .entry)) (now (values .entry))) .values ⌝ }
+    ensures { λ _. ⌜ now (count .exit) ≡ written itself ((trainAsked (inputOf (now (g .entry)) (now (d .entry)) (now (nodes .entry)) (now (children .entry)) (now (sequences .entry)) s n rate) (now (book .entry)) (now (knots .entry)) (now (values .entry))) .answer) (now (count .entry)) ⌝ }
+    ensures { λ _. ⌜ now («node_scale» .exit) ≡ scaleNamed ((trainAsked (inputOf (now (g .entry)) (now (d .entry)) (now (nodes .entry)) (now (children .entry)) (now (sequences .entry)) s n rate) (now (book .entry)) (now (knots .entry)) (now (values .entry))) .answer) (now («node_scale» .entry)) ⌝ }
+    ensures { λ _. ⌜ now («node_point» .exit) ≡ pointNamed ((trainAsked (inputOf (now (g .entry)) (now (d .entry)) (now (nodes .entry)) (now (children .entry)) (now (sequences .entry)) s n rate) (now (book .entry)) (now (knots .entry)) (now (values .entry))) .answer) (now («node_point» .entry)) ⌝ }
 {
     let answer = train(
         g,

@@ -2,11 +2,11 @@
 // for the node that 14 and 15 name.
 ghost use mathlib.Core.Path.{_≡_};
 ghost use Rattle.priors.specs.Address.{rankOf};
-ghost use Rattle.divergence.specs.Readings.{room, vectorAddresses, vectorFigures, allAddresses, allFigures};
-ghost use Rattle.divergence.specs.Asked.{probAsked, evidenceAsked, klAsked, allAsked, statsAsked};
-ghost use Rattle.divergence.specs.Answers.{vectorResult, allResult};
+ghost use Rattle.priors.specs.Tables.{lentTables};
+ghost use Rattle.priors.specs.Priors.{lentPriors};
+ghost use Rattle.divergence.specs.Asked.{lentOutput, probAsked, evidenceAsked, klAsked, allAsked, statsAsked};
 ghost use Rattle.exports.specs.Codes.{code, written, scaleNamed, pointNamed};
-ghost use Rattle.exports.specs.Outputs.{trackerOf, placesOf, endingOf, itself, allCounts, fourFigures, threeCounts};
+ghost use Rattle.exports.specs.Outputs.{seenIn, placesOf, endingOf, itself, allCounts, fourFigures, threeCounts};
 use crate::answers::tell_all;
 use crate::answers::tell_kl;
 use crate::answers::tell_stats;
@@ -33,11 +33,11 @@ pub extern "C" fn teakpool_prob_vector(
     places: &mut u32,
     ending: &mut f64,
 ) -> u32
-    ensures { λ r. ⌜ r ≡ code (vectorResult (probAsked (trackerOf (now (state .entry))) (now (book .entry)) (now (queue .entry)) (now (nodes .entry)) (now (children .entry)) (rankOf scale point) (room (now (addresses .entry)) (now (figures .entry))))) ⌝ }
-    ensures { λ _. ⌜ now (addresses .exit) ≡ vectorAddresses (probAsked (trackerOf (now (state .entry))) (now (book .entry)) (now (queue .entry)) (now (nodes .entry)) (now (children .entry)) (rankOf scale point) (room (now (addresses .entry)) (now (figures .entry)))) (now (addresses .entry)) ⌝ }
-    ensures { λ _. ⌜ now (figures .exit) ≡ vectorFigures (probAsked (trackerOf (now (state .entry))) (now (book .entry)) (now (queue .entry)) (now (nodes .entry)) (now (children .entry)) (rankOf scale point) (room (now (addresses .entry)) (now (figures .entry)))) (now (figures .entry)) ⌝ }
-    ensures { λ _. ⌜ now (places .exit) ≡ written placesOf (vectorResult (probAsked (trackerOf (now (state .entry))) (now (book .entry)) (now (queue .entry)) (now (nodes .entry)) (now (children .entry)) (rankOf scale point) (room (now (addresses .entry)) (now (figures .entry))))) (now (places .entry)) ⌝ }
-    ensures { λ _. ⌜ now (ending .exit) ≡ written endingOf (vectorResult (probAsked (trackerOf (now (state .entry))) (now (book .entry)) (now (queue .entry)) (now (nodes .entry)) (now (children .entry)) (rankOf scale point) (room (now (addresses .entry)) (now (figures .entry))))) (now (ending .entry)) ⌝ }
+    ensures { λ r. ⌜ r ≡ code ((probAsked (seenIn (now (state .entry)) (now (book .entry)) (now (queue .entry))) (lentPriors (now (nodes .entry)) (now (children .entry))) (rankOf scale point) (lentOutput (now (addresses .entry)) (now (figures .entry)))) .answer) ⌝ }
+    ensures { λ _. ⌜ now (addresses .exit) ≡ (probAsked (seenIn (now (state .entry)) (now (book .entry)) (now (queue .entry))) (lentPriors (now (nodes .entry)) (now (children .entry))) (rankOf scale point) (lentOutput (now (addresses .entry)) (now (figures .entry)))) .output .addresses ⌝ }
+    ensures { λ _. ⌜ now (figures .exit) ≡ (probAsked (seenIn (now (state .entry)) (now (book .entry)) (now (queue .entry))) (lentPriors (now (nodes .entry)) (now (children .entry))) (rankOf scale point) (lentOutput (now (addresses .entry)) (now (figures .entry)))) .output .figures ⌝ }
+    ensures { λ _. ⌜ now (places .exit) ≡ written placesOf ((probAsked (seenIn (now (state .entry)) (now (book .entry)) (now (queue .entry))) (lentPriors (now (nodes .entry)) (now (children .entry))) (rankOf scale point) (lentOutput (now (addresses .entry)) (now (figures .entry)))) .answer) (now (places .entry)) ⌝ }
+    ensures { λ _. ⌜ now (ending .exit) ≡ written endingOf ((probAsked (seenIn (now (state .entry)) (now (book .entry)) (now (queue .entry))) (lentPriors (now (nodes .entry)) (now (children .entry))) (rankOf scale point) (lentOutput (now (addresses .entry)) (now (figures .entry)))) .answer) (now (ending .entry)) ⌝ }
 {
     let t = tracker_of(state);
     let answer = prob_vector(
@@ -67,11 +67,11 @@ pub extern "C" fn teakpool_evidence_prob_vector(
     places: &mut u32,
     ending: &mut f64,
 ) -> u32
-    ensures { λ r. ⌜ r ≡ code (vectorResult (evidenceAsked (trackerOf (now (state .entry))) (now (book .entry)) (now (queue .entry)) (rankOf scale point) (room (now (addresses .entry)) (now (figures .entry))))) ⌝ }
-    ensures { λ _. ⌜ now (addresses .exit) ≡ vectorAddresses (evidenceAsked (trackerOf (now (state .entry))) (now (book .entry)) (now (queue .entry)) (rankOf scale point) (room (now (addresses .entry)) (now (figures .entry)))) (now (addresses .entry)) ⌝ }
-    ensures { λ _. ⌜ now (figures .exit) ≡ vectorFigures (evidenceAsked (trackerOf (now (state .entry))) (now (book .entry)) (now (queue .entry)) (rankOf scale point) (room (now (addresses .entry)) (now (figures .entry)))) (now (figures .entry)) ⌝ }
-    ensures { λ _. ⌜ now (places .exit) ≡ written placesOf (vectorResult (evidenceAsked (trackerOf (now (state .entry))) (now (book .entry)) (now (queue .entry)) (rankOf scale point) (room (now (addresses .entry)) (now (figures .entry))))) (now (places .entry)) ⌝ }
-    ensures { λ _. ⌜ now (ending .exit) ≡ written endingOf (vectorResult (evidenceAsked (trackerOf (now (state .entry))) (now (book .entry)) (now (queue .entry)) (rankOf scale point) (room (now (addresses .entry)) (now (figures .entry))))) (now (ending .entry)) ⌝ }
+    ensures { λ r. ⌜ r ≡ code ((evidenceAsked (seenIn (now (state .entry)) (now (book .entry)) (now (queue .entry))) (rankOf scale point) (lentOutput (now (addresses .entry)) (now (figures .entry)))) .answer) ⌝ }
+    ensures { λ _. ⌜ now (addresses .exit) ≡ (evidenceAsked (seenIn (now (state .entry)) (now (book .entry)) (now (queue .entry))) (rankOf scale point) (lentOutput (now (addresses .entry)) (now (figures .entry)))) .output .addresses ⌝ }
+    ensures { λ _. ⌜ now (figures .exit) ≡ (evidenceAsked (seenIn (now (state .entry)) (now (book .entry)) (now (queue .entry))) (rankOf scale point) (lentOutput (now (addresses .entry)) (now (figures .entry)))) .output .figures ⌝ }
+    ensures { λ _. ⌜ now (places .exit) ≡ written placesOf ((evidenceAsked (seenIn (now (state .entry)) (now (book .entry)) (now (queue .entry))) (rankOf scale point) (lentOutput (now (addresses .entry)) (now (figures .entry)))) .answer) (now (places .entry)) ⌝ }
+    ensures { λ _. ⌜ now (ending .exit) ≡ written endingOf ((evidenceAsked (seenIn (now (state .entry)) (now (book .entry)) (now (queue .entry))) (rankOf scale point) (lentOutput (now (addresses .entry)) (now (figures .entry)))) .answer) (now (ending .entry)) ⌝ }
 {
     let t = tracker_of(state);
     let answer = evidence_prob_vector(t, book, queue, scale, point, addresses, figures);
@@ -92,8 +92,8 @@ pub extern "C" fn teakpool_posterior_kl_divergence(
     point: u32,
     value: &mut f64,
 ) -> u32
-    ensures { λ r. ⌜ r ≡ code (klAsked (trackerOf (now (state .entry))) (now (book .entry)) (now (queue .entry)) (now (nodes .entry)) (now (children .entry)) (now (g .entry)) (now (d .entry)) (rankOf scale point)) ⌝ }
-    ensures { λ _. ⌜ now (value .exit) ≡ written itself (klAsked (trackerOf (now (state .entry))) (now (book .entry)) (now (queue .entry)) (now (nodes .entry)) (now (children .entry)) (now (g .entry)) (now (d .entry)) (rankOf scale point)) (now (value .entry)) ⌝ }
+    ensures { λ r. ⌜ r ≡ code (klAsked (seenIn (now (state .entry)) (now (book .entry)) (now (queue .entry))) (lentTables (now (g .entry)) (now (d .entry))) (lentPriors (now (nodes .entry)) (now (children .entry))) (rankOf scale point)) ⌝ }
+    ensures { λ _. ⌜ now (value .exit) ≡ written itself (klAsked (seenIn (now (state .entry)) (now (book .entry)) (now (queue .entry))) (lentTables (now (g .entry)) (now (d .entry))) (lentPriors (now (nodes .entry)) (now (children .entry))) (rankOf scale point)) (now (value .entry)) ⌝ }
 {
     let t = tracker_of(state);
     let answer = posterior_kl_divergence(t, book, queue, nodes, children, g, d, scale, point);
@@ -116,12 +116,12 @@ pub extern "C" fn teakpool_all_node_kl(
     node_scale: &mut i32,
     node_point: &mut u32,
 ) -> u32
-    ensures { λ r. ⌜ r ≡ code (allResult (allAsked (trackerOf (now (state .entry))) (now (book .entry)) (now (queue .entry)) (now (nodes .entry)) (now (children .entry)) (now (g .entry)) (now (d .entry)) (room (now (addresses .entry)) (now (figures .entry))))) ⌝ }
-    ensures { λ _. ⌜ now (addresses .exit) ≡ allAddresses (allAsked (trackerOf (now (state .entry))) (now (book .entry)) (now (queue .entry)) (now (nodes .entry)) (now (children .entry)) (now (g .entry)) (now (d .entry)) (room (now (addresses .entry)) (now (figures .entry)))) (now (addresses .entry)) ⌝ }
-    ensures { λ _. ⌜ now (figures .exit) ≡ allFigures (allAsked (trackerOf (now (state .entry))) (now (book .entry)) (now (queue .entry)) (now (nodes .entry)) (now (children .entry)) (now (g .entry)) (now (d .entry)) (room (now (addresses .entry)) (now (figures .entry)))) (now (figures .entry)) ⌝ }
-    ensures { λ _. ⌜ now (counts .exit) ≡ written allCounts (allResult (allAsked (trackerOf (now (state .entry))) (now (book .entry)) (now (queue .entry)) (now (nodes .entry)) (now (children .entry)) (now (g .entry)) (now (d .entry)) (room (now (addresses .entry)) (now (figures .entry))))) (now (counts .entry)) ⌝ }
-    ensures { λ _. ⌜ now («node_scale» .exit) ≡ scaleNamed (allResult (allAsked (trackerOf (now (state .entry))) (now (book .entry)) (now (queue .entry)) (now (nodes .entry)) (now (children .entry)) (now (g .entry)) (now (d .entry)) (room (now (addresses .entry)) (now (figures .entry))))) (now («node_scale» .entry)) ⌝ }
-    ensures { λ _. ⌜ now («node_point» .exit) ≡ pointNamed (allResult (allAsked (trackerOf (now (state .entry))) (now (book .entry)) (now (queue .entry)) (now (nodes .entry)) (now (children .entry)) (now (g .entry)) (now (d .entry)) (room (now (addresses .entry)) (now (figures .entry))))) (now («node_point» .entry)) ⌝ }
+    ensures { λ r. ⌜ r ≡ code ((allAsked (seenIn (now (state .entry)) (now (book .entry)) (now (queue .entry))) (lentTables (now (g .entry)) (now (d .entry))) (lentPriors (now (nodes .entry)) (now (children .entry))) (lentOutput (now (addresses .entry)) (now (figures .entry)))) .answer) ⌝ }
+    ensures { λ _. ⌜ now (addresses .exit) ≡ (allAsked (seenIn (now (state .entry)) (now (book .entry)) (now (queue .entry))) (lentTables (now (g .entry)) (now (d .entry))) (lentPriors (now (nodes .entry)) (now (children .entry))) (lentOutput (now (addresses .entry)) (now (figures .entry)))) .output .addresses ⌝ }
+    ensures { λ _. ⌜ now (figures .exit) ≡ (allAsked (seenIn (now (state .entry)) (now (book .entry)) (now (queue .entry))) (lentTables (now (g .entry)) (now (d .entry))) (lentPriors (now (nodes .entry)) (now (children .entry))) (lentOutput (now (addresses .entry)) (now (figures .entry)))) .output .figures ⌝ }
+    ensures { λ _. ⌜ now (counts .exit) ≡ written allCounts ((allAsked (seenIn (now (state .entry)) (now (book .entry)) (now (queue .entry))) (lentTables (now (g .entry)) (now (d .entry))) (lentPriors (now (nodes .entry)) (now (children .entry))) (lentOutput (now (addresses .entry)) (now (figures .entry)))) .answer) (now (counts .entry)) ⌝ }
+    ensures { λ _. ⌜ now («node_scale» .exit) ≡ scaleNamed ((allAsked (seenIn (now (state .entry)) (now (book .entry)) (now (queue .entry))) (lentTables (now (g .entry)) (now (d .entry))) (lentPriors (now (nodes .entry)) (now (children .entry))) (lentOutput (now (addresses .entry)) (now (figures .entry)))) .answer) (now («node_scale» .entry)) ⌝ }
+    ensures { λ _. ⌜ now («node_point» .exit) ≡ pointNamed ((allAsked (seenIn (now (state .entry)) (now (book .entry)) (now (queue .entry))) (lentTables (now (g .entry)) (now (d .entry))) (lentPriors (now (nodes .entry)) (now (children .entry))) (lentOutput (now (addresses .entry)) (now (figures .entry)))) .answer) (now («node_point» .entry)) ⌝ }
 {
     let t = tracker_of(state);
     let answer = all_node_kl(t, book, queue, nodes, children, g, d, addresses, figures);
@@ -143,11 +143,11 @@ pub extern "C" fn teakpool_kl_div_stats(
     node_scale: &mut i32,
     node_point: &mut u32,
 ) -> u32
-    ensures { λ r. ⌜ r ≡ code (statsAsked (trackerOf (now (state .entry))) (now (book .entry)) (now (queue .entry)) (now (nodes .entry)) (now (children .entry)) (now (g .entry)) (now (d .entry))) ⌝ }
-    ensures { λ _. ⌜ now (figures .exit) ≡ written fourFigures (statsAsked (trackerOf (now (state .entry))) (now (book .entry)) (now (queue .entry)) (now (nodes .entry)) (now (children .entry)) (now (g .entry)) (now (d .entry))) (now (figures .entry)) ⌝ }
-    ensures { λ _. ⌜ now (counts .exit) ≡ written threeCounts (statsAsked (trackerOf (now (state .entry))) (now (book .entry)) (now (queue .entry)) (now (nodes .entry)) (now (children .entry)) (now (g .entry)) (now (d .entry))) (now (counts .entry)) ⌝ }
-    ensures { λ _. ⌜ now («node_scale» .exit) ≡ scaleNamed (statsAsked (trackerOf (now (state .entry))) (now (book .entry)) (now (queue .entry)) (now (nodes .entry)) (now (children .entry)) (now (g .entry)) (now (d .entry))) (now («node_scale» .entry)) ⌝ }
-    ensures { λ _. ⌜ now («node_point» .exit) ≡ pointNamed (statsAsked (trackerOf (now (state .entry))) (now (book .entry)) (now (queue .entry)) (now (nodes .entry)) (now (children .entry)) (now (g .entry)) (now (d .entry))) (now («node_point» .entry)) ⌝ }
+    ensures { λ r. ⌜ r ≡ code (statsAsked (seenIn (now (state .entry)) (now (book .entry)) (now (queue .entry))) (lentTables (now (g .entry)) (now (d .entry))) (lentPriors (now (nodes .entry)) (now (children .entry)))) ⌝ }
+    ensures { λ _. ⌜ now (figures .exit) ≡ written fourFigures (statsAsked (seenIn (now (state .entry)) (now (book .entry)) (now (queue .entry))) (lentTables (now (g .entry)) (now (d .entry))) (lentPriors (now (nodes .entry)) (now (children .entry)))) (now (figures .entry)) ⌝ }
+    ensures { λ _. ⌜ now (counts .exit) ≡ written threeCounts (statsAsked (seenIn (now (state .entry)) (now (book .entry)) (now (queue .entry))) (lentTables (now (g .entry)) (now (d .entry))) (lentPriors (now (nodes .entry)) (now (children .entry)))) (now (counts .entry)) ⌝ }
+    ensures { λ _. ⌜ now («node_scale» .exit) ≡ scaleNamed (statsAsked (seenIn (now (state .entry)) (now (book .entry)) (now (queue .entry))) (lentTables (now (g .entry)) (now (d .entry))) (lentPriors (now (nodes .entry)) (now (children .entry)))) (now («node_scale» .entry)) ⌝ }
+    ensures { λ _. ⌜ now («node_point» .exit) ≡ pointNamed (statsAsked (seenIn (now (state .entry)) (now (book .entry)) (now (queue .entry))) (lentTables (now (g .entry)) (now (d .entry))) (lentPriors (now (nodes .entry)) (now (children .entry)))) (now («node_point» .entry)) ⌝ }
 {
     let t = tracker_of(state);
     let answer = kl_div_stats(t, book, queue, nodes, children, g, d);

@@ -1,8 +1,8 @@
 // Opening a tracker and adding a path. The tracker's three numbers stand in a lent array: window, entries used, paths accepted. A
 // refused call leaves all that is lent as it was.
 ghost use mathlib.Core.Path.{_≡_};
-ghost use Rattle.book.specs.Calls.{openNumber, openBook, openQueue, addNumber, addBook, addQueue};
-ghost use Rattle.exports.specs.Outputs.{trackerOf, openNumbers, addNumbers};
+ghost use Rattle.book.specs.Calls.{openAnswer, addAnswer};
+ghost use Rattle.exports.specs.Outputs.{trackerOf, numbersOr, keptNumbers};
 use crate::answers::tell_added;
 use crate::answers::tell_opened;
 use crate::answers::tracker_of;
@@ -16,10 +16,10 @@ pub extern "C" fn teakpool_open(
     queue: &mut [u8],
     state: &mut [u32; 3],
 ) -> u32
-    ensures { λ r. ⌜ r ≡ openNumber window (now (book .entry)) (now (queue .entry)) ⌝ }
-    ensures { λ _. ⌜ now (book .exit) ≡ openBook window (now (book .entry)) (now (queue .entry)) ⌝ }
-    ensures { λ _. ⌜ now (queue .exit) ≡ openQueue window (now (book .entry)) (now (queue .entry)) ⌝ }
-    ensures { λ _. ⌜ now (state .exit) ≡ openNumbers window (now (book .entry)) (now (queue .entry)) (now (state .entry)) ⌝ }
+    ensures { λ r. ⌜ r ≡ openAnswer window (now (book .entry)) (now (queue .entry)) .number ⌝ }
+    ensures { λ _. ⌜ now (book .exit) ≡ openAnswer window (now (book .entry)) (now (queue .entry)) .book ⌝ }
+    ensures { λ _. ⌜ now (queue .exit) ≡ openAnswer window (now (book .entry)) (now (queue .entry)) .queue ⌝ }
+    ensures { λ _. ⌜ now (state .exit) ≡ numbersOr (openAnswer window (now (book .entry)) (now (queue .entry)) .state) (now (state .entry)) ⌝ }
 {
     let answer = Tracker::open(window, book, queue);
     tell_opened(answer, state)
@@ -33,10 +33,10 @@ pub extern "C" fn teakpool_add_path(
     queue: &mut [u8],
     path: &[u8],
 ) -> u32
-    ensures { λ r. ⌜ r ≡ addNumber (trackerOf (now (state .entry))) (now (book .entry)) (now (queue .entry)) (now (path .entry)) ⌝ }
-    ensures { λ _. ⌜ now (book .exit) ≡ addBook (trackerOf (now (state .entry))) (now (book .entry)) (now (queue .entry)) (now (path .entry)) ⌝ }
-    ensures { λ _. ⌜ now (queue .exit) ≡ addQueue (trackerOf (now (state .entry))) (now (book .entry)) (now (queue .entry)) (now (path .entry)) ⌝ }
-    ensures { λ _. ⌜ now (state .exit) ≡ addNumbers (now (state .entry)) (now (book .entry)) (now (queue .entry)) (now (path .entry)) ⌝ }
+    ensures { λ r. ⌜ r ≡ addAnswer (trackerOf (now (state .entry))) (now (book .entry)) (now (queue .entry)) (now (path .entry)) .number ⌝ }
+    ensures { λ _. ⌜ now (book .exit) ≡ addAnswer (trackerOf (now (state .entry))) (now (book .entry)) (now (queue .entry)) (now (path .entry)) .book ⌝ }
+    ensures { λ _. ⌜ now (queue .exit) ≡ addAnswer (trackerOf (now (state .entry))) (now (book .entry)) (now (queue .entry)) (now (path .entry)) .queue ⌝ }
+    ensures { λ _. ⌜ now (state .exit) ≡ keptNumbers (addAnswer (trackerOf (now (state .entry))) (now (book .entry)) (now (queue .entry)) (now (path .entry))) (now (state .entry)) ⌝ }
 {
     let t = tracker_of(state);
     let answer = t.add_path(book, queue, path);

@@ -9,24 +9,8 @@ use priors::refusals::number;
 // The rank of the node that a refusal names, or of the address of two zeros.
 fn named_rank(r: Refusal) -> u64 {
     match r {
-        Refusal::MissingChild(node) => rank_of(node.scale, node.point),
-        Refusal::PastTable(node) => rank_of(node.scale, node.point),
-        Refusal::TableLengths => rank(0, 0),
-        Refusal::TableEntry => rank(0, 0),
-        Refusal::PriorSizes => rank(0, 0),
-        Refusal::NodeOrder => rank(0, 0),
-        Refusal::Links => rank(0, 0),
-        Refusal::ChainOrder => rank(0, 0),
-        Refusal::ZeroPrior => rank(0, 0),
-        Refusal::Window => rank(0, 0),
-        Refusal::Form => rank(0, 0),
-        Refusal::PathLength => rank(0, 0),
-        Refusal::PathsFull => rank(0, 0),
-        Refusal::BookFull => rank(0, 0),
-        Refusal::OutputShort => rank(0, 0),
-        Refusal::TrainingInput => rank(0, 0),
-        Refusal::BaselineInput => rank(0, 0),
-        Refusal::OneKnot => rank(0, 0),
+        Refusal::AtNode(_, node) => rank_of(node.scale, node.point),
+        Refusal::Plain(_) => rank(0, 0),
     }
 }
 

@@ -3,8 +3,8 @@
 ghost use mathlib.Core.Path.{_≡_};
 ghost use mathlib.Core.Bool.{true};
 ghost use Rattle.book.specs.Form.{inForm};
-ghost use Rattle.book.specs.Calls.{addNumber, addBook, addQueue};
-ghost use Rattle.exports.specs.Outputs.{trackerOf, addNumbers};
+ghost use Rattle.book.specs.Calls.{addAnswer};
+ghost use Rattle.exports.specs.Outputs.{trackerOf, keptNumbers};
 use exports::answers::tell_added;
 use exports::answers::tracker_of;
 
@@ -17,10 +17,10 @@ pub extern "C" fn pace_add_formed(
     path: &[u8],
 ) -> u32
     requires { ⌜ inForm (trackerOf (now state)) (now book) (now queue) ≡ true ⌝ }
-    ensures { λ r. ⌜ r ≡ addNumber (trackerOf (now (state .entry))) (now (book .entry)) (now (queue .entry)) (now (path .entry)) ⌝ }
-    ensures { λ _. ⌜ now (book .exit) ≡ addBook (trackerOf (now (state .entry))) (now (book .entry)) (now (queue .entry)) (now (path .entry)) ⌝ }
-    ensures { λ _. ⌜ now (queue .exit) ≡ addQueue (trackerOf (now (state .entry))) (now (book .entry)) (now (queue .entry)) (now (path .entry)) ⌝ }
-    ensures { λ _. ⌜ now (state .exit) ≡ addNumbers (now (state .entry)) (now (book .entry)) (now (queue .entry)) (now (path .entry)) ⌝ }
+    ensures { λ r. ⌜ r ≡ addAnswer (trackerOf (now (state .entry))) (now (book .entry)) (now (queue .entry)) (now (path .entry)) .number ⌝ }
+    ensures { λ _. ⌜ now (book .exit) ≡ addAnswer (trackerOf (now (state .entry))) (now (book .entry)) (now (queue .entry)) (now (path .entry)) .book ⌝ }
+    ensures { λ _. ⌜ now (queue .exit) ≡ addAnswer (trackerOf (now (state .entry))) (now (book .entry)) (now (queue .entry)) (now (path .entry)) .queue ⌝ }
+    ensures { λ _. ⌜ now (state .exit) ≡ keptNumbers (addAnswer (trackerOf (now (state .entry))) (now (book .entry)) (now (queue .entry)) (now (path .entry))) (now (state .entry)) ⌝ }
 {
     let t = tracker_of(state);
     let answer = t.add_formed(book, queue, path);

@@ -1,6 +1,6 @@
 -- `Fields` has the laws of fields, `Tests` those of comparisons, `Signs` and `Ranks` those of addresses. Then one change of rows (`Orders`, `RowLaws`), when two
--- lists of rows are equal (`Ext`), and rows by their places (`ByPlace`). `BelowLaws` has the laws of scans, `ChainLaws` and `RecordLaws` those of prior records, `PriorLaws`
--- what accepted priors tell, `TableLaws` what the bounds of tables are.
+-- lists of rows are equal (`Ext`), rows by their places (`ByPlace`), and where a search finds what a look-up by exact key finds (`Exactly`). `BelowLaws` has the laws of scans, `ChainLaws` and `RecordLaws` those of prior records, `PriorLaws`
+-- what accepted priors tell, `TableLaws` what the bounds of tables are, `RuleLaws` which numbers rules give and what a refusal's number says of it.
 pub mod Fields
 pub mod Tests
 pub mod Signs
@@ -9,8 +9,10 @@ pub mod Orders
 pub mod RowLaws
 pub mod Ext
 pub mod ByPlace
+pub mod Exactly
 pub mod BelowLaws
 pub mod ChainLaws
 pub mod RecordLaws
 pub mod PriorLaws
 pub mod TableLaws
+pub mod RuleLaws

@@ -2,7 +2,7 @@
 -- child's count is 0. Assumes nothing.
 use mathlib.Core.Path.{_≡_, refl, sym, ap, _∙_}
 use mathlib.Core.Bool.{Bool, true, false, cond}
-use Prim.Native.Nat.{ℕ, zero, suc, _+_, _*_, _^_, _≤_, _<_, compare, Ordering, Ordering·lt, Ordering·eq, Ordering·gt}
+use Prim.Native.Nat.{ℕ, zero, suc, _+_, _*_, _^_, _≤_, _<_}
 use native.Mathlib.Omega.{arith}
 use mathlib.Core.List.{List, [], _∷_, map}
 use mathlib.Core.Option.{Option, none, some, Option·map}
@@ -11,7 +11,7 @@ use lib.ListN.{length, getD}
 use borrow.Author.Tests.{leb-true, ltb-true}
 use Rattle.priors.specs.Limits.{maxChain, maxNodes, maxChildren}
 use Rattle.priors.specs.declared.records.Record.{Record}
-use Rattle.priors.specs.Rows.{row, choose, look}
+use Rattle.priors.specs.Rows.{row, countOf}
 use Rattle.priors.specs.Priors.{recordAt, recordCount, records, ascends, findRecord, chain, chainOf, Counts, countSum, total, priorOf, priorOfNode, wholeRecords, firstLinkFits, nextLinkFits, chainFits, chainAscends, countFits, totalFits, everyNode, everyChild, priorsRefusal}
 use Rattle.priors.proofs.Ranks.{Bytes, word-lt}
 use Rattle.priors.proofs.BelowLaws.{all-at}
@@ -67,38 +67,39 @@ found-keeps nodes test all k r h =
     let is : recordAt nodes (p .0) ≡ r = sym (getD-records nodes (p .0) l) ∙ p .1 .1 in
     ap test (sym is) ∙ all-at (λ i. test (recordAt nodes i)) (recordCount nodes) (p .0) all l
 
--- the chain of a node that is found: its first link is a record's number or 0, and it has at most 64 records
+-- the chain of a node that is found: its first link is a record's number or 0, it has at most 64 records, and it ascends
 pub record ChainFits (children : List ℕ) (node : Record) : Type 0 where
   pub link-fits : node .link ≤ recordCount children
   pub short : length (chainOf children (node .link)) ≤ maxChain
+  pub ascending : ascends (chainOf children (node .link)) ≡ true
 
 -- a prior with a total that is not 0, and no child's count that is
 pub record Positive (p : Counts) : Type 0 where
   pub total-positive : 0 < total p
-  pub count-positive : (k c : ℕ) → look k (p .children) ≡ some c → 0 < c
+  pub count-positive : (k c : ℕ) → countOf k (p .children) ≡ some c → 0 < c
 
 module _ (nodes children : List ℕ) (ok : Accepted nodes children) where
   pub found-fits : (k : ℕ) (r : Record) → findRecord k (records nodes) ≡ some r → ChainFits children r
-  unfolding firstLinkFits chainFits
+  unfolding firstLinkFits chainFits chainAscends
   found-fits k r h = record {
     link-fits = leb-true (r .link) (recordCount children) (found-keeps nodes (λ n. leb (n .link) (recordCount children)) (ok .firsts) k r h);
     short = leb-true (length (chainOf children (r .link))) maxChain (found-keeps nodes (λ n. leb (length (chainOf children (n .link))) maxChain) (ok .lengths) k r h);
+    ascending = found-keeps nodes (λ n. ascends (chainOf children (n .link))) (ok .ascending) k r h;
   }
 
   -- the records of a chain keep 7
-  chain-positive : (n link : ℕ) → link ≤ recordCount children → (k c : ℕ) → look k (map (λ (r : Record). row (r .rank) (r .count)) (chain children n link)) ≡ some c → 0 < c
-  unfolding chain look countFits
+  chain-positive : (n link : ℕ) → link ≤ recordCount children → (k c : ℕ) → countOf k (map (λ (r : Record). row (r .rank) (r .count)) (chain children n link)) ≡ some c → 0 < c
+  unfolding chain countOf countFits
   chain-positive zero link l k c h = let z : _≡_ {A = ℕ} 0 1 = cc in absurd (omega arith)
   chain-positive (suc n) zero l k c h = let z : _≡_ {A = ℕ} 0 1 = cc in absurd (omega arith)
   chain-positive (suc n) (suc i) l k c h =
-      go (compare k (recordAt children i .rank)) h (chain-positive n (recordAt children i .link) (next-small children (ok .rising) i (omega arith)) k c)
+      go (eqb (recordAt children i .rank) k) h (chain-positive n (recordAt children i .link) (next-small children (ok .rising) i (omega arith)) k c)
     where
-      go : {rest : Option ℕ} (o : Ordering) → choose o none (some (recordAt children i .count)) rest ≡ some c → (rest ≡ some c → 0 < c) → 0 < c
-      go Ordering·lt h on = let z : _≡_ {A = ℕ} 0 1 = cc in absurd (omega arith)
-      go Ordering·eq h on =
+      go : {rest : Option ℕ} (b : Bool) → cond b (some (recordAt children i .count)) rest ≡ some c → (rest ≡ some c → 0 < c) → 0 < c
+      go true h on =
           let e : recordAt children i .count ≡ c = cc in
           rw e at (ltb-true 0 (recordAt children i .count) (all-at (countFits children) (recordCount children) i (ok .counts) (omega arith)))
-      go Ordering·gt h on = on h
+      go false h on = on h
 
   pub prior-positive : (k : ℕ) (p : Counts) → priorOf nodes children k ≡ some p → Positive p
   unfolding priorOf totalFits chainOf

@@ -9,9 +9,17 @@ use Rattle.priors.specs.Word.{word}
 use Rattle.priors.specs.Address.{rankAt}
 use Rattle.priors.specs.Rows.{Row, row}
 use Rattle.priors.specs.Below.{allBelow, listOf}
-use Rattle.priors.specs.Rules.{rule, firstBroken}
+use Rattle.priors.specs.Rules.{Rule, rule, firstBroken}
 use Rattle.priors.specs.Limits.{maxNodes, maxChildren, maxChain, recordSize}
 use Rattle.priors.specs.declared.records.Record.{Record}
+
+-- what a call is lent as priors: node records and child records
+pub record LentPriors : Type 0 where
+  pub nodes : List ℕ
+  pub children : List ℕ
+
+abbrev pub lentPriors : List ℕ → List ℕ → LentPriors
+lentPriors nodes children = record { nodes = nodes; children = children }
 
 -- ---- records
 
@@ -115,10 +123,9 @@ everyNode nodes test = allBelow (recordCount nodes) test
 abbrev pub everyChild : List ℕ → (ℕ → Bool) → Bool
 everyChild children test = allBelow (recordCount children) test
 
-unfoldable pub priorsRefusal : List ℕ → List ℕ → ℕ
-priorsRefusal nodes children =
-    firstBroken
-    (rule 3 (wholeRecords nodes maxNodes)
+abbrev pub priorRules : List ℕ → List ℕ → List Rule
+priorRules nodes children =
+    rule 3 (wholeRecords nodes maxNodes)
     ∷ rule 3 (wholeRecords children maxChildren)
     ∷ rule 4 (ascends (records nodes))
     ∷ rule 5 (everyNode nodes (firstLinkFits nodes children))
@@ -127,4 +134,7 @@ priorsRefusal nodes children =
     ∷ rule 6 (everyNode nodes (chainAscends nodes children))
     ∷ rule 7 (everyChild children (countFits children))
     ∷ rule 7 (everyNode nodes (totalFits nodes children))
-    ∷ [])
+    ∷ []
+
+unfoldable pub priorsRefusal : List ℕ → List ℕ → ℕ
+priorsRefusal nodes children = firstBroken (priorRules nodes children)

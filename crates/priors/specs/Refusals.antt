@@ -3,50 +3,44 @@ use Prim.Native.Nat.{ℕ}
 use mathlib.Core.Option.{Option, none, some}
 use Rattle.priors.specs.declared.addresses.Address.{Address}
 use Rattle.priors.specs.declared.refusals.Refusal.{Refusal}
-use Rattle.priors.specs.declared.refusals.Refusal.the-variants.{TableLengths, TableEntry, PriorSizes, NodeOrder, Links, ChainOrder, ZeroPrior, Window, Form, PathLength, PathsFull, BookFull, OutputShort, MissingChild, PastTable, TrainingInput, BaselineInput, OneKnot}
+use Rattle.priors.specs.declared.refusals.Refusal.the-variants.{Plain, AtNode}
+use Rattle.priors.specs.declared.refusals.Reason.{Reason}
+use Rattle.priors.specs.declared.refusals.Reason.the-variants.{TableLengths, TableEntry, PriorSizes, NodeOrder, Links, ChainOrder, ZeroPrior, Window, Form, PathLength, PathsFull, BookFull, OutputShort, TrainingInput, BaselineInput, OneKnot}
+use Rattle.priors.specs.declared.refusals.NodeReason.{NodeReason}
+use Rattle.priors.specs.declared.refusals.NodeReason.the-variants.{MissingChild, PastTable}
 use Rattle.priors.specs.declared.refusals.Checked.{Checked}
 use Rattle.priors.specs.declared.refusals.Checked.the-variants.{Passed, Refused}
 
+abbrev pub reasonNumber : Reason → ℕ
+reasonNumber TableLengths = 1
+reasonNumber TableEntry = 2
+reasonNumber PriorSizes = 3
+reasonNumber NodeOrder = 4
+reasonNumber Links = 5
+reasonNumber ChainOrder = 6
+reasonNumber ZeroPrior = 7
+reasonNumber Window = 8
+reasonNumber Form = 9
+reasonNumber PathLength = 10
+reasonNumber PathsFull = 11
+reasonNumber BookFull = 12
+reasonNumber OutputShort = 13
+reasonNumber TrainingInput = 16
+reasonNumber BaselineInput = 17
+reasonNumber OneKnot = 18
+
+abbrev pub nodeReasonNumber : NodeReason → ℕ
+nodeReasonNumber MissingChild = 14
+nodeReasonNumber PastTable = 15
+
 abbrev pub numberOf : Refusal → ℕ
-numberOf TableLengths = 1
-numberOf TableEntry = 2
-numberOf PriorSizes = 3
-numberOf NodeOrder = 4
-numberOf Links = 5
-numberOf ChainOrder = 6
-numberOf ZeroPrior = 7
-numberOf Window = 8
-numberOf Form = 9
-numberOf PathLength = 10
-numberOf PathsFull = 11
-numberOf BookFull = 12
-numberOf OutputShort = 13
-numberOf (MissingChild node) = 14
-numberOf (PastTable node) = 15
-numberOf TrainingInput = 16
-numberOf BaselineInput = 17
-numberOf OneKnot = 18
+numberOf (Plain reason) = reasonNumber reason
+numberOf (AtNode reason node) = nodeReasonNumber reason
 
 -- the node that 14 and 15 name
 abbrev pub namedNode : Refusal → Option Address
-namedNode TableLengths = none
-namedNode TableEntry = none
-namedNode PriorSizes = none
-namedNode NodeOrder = none
-namedNode Links = none
-namedNode ChainOrder = none
-namedNode ZeroPrior = none
-namedNode Window = none
-namedNode Form = none
-namedNode PathLength = none
-namedNode PathsFull = none
-namedNode BookFull = none
-namedNode OutputShort = none
-namedNode (MissingChild node) = some node
-namedNode (PastTable node) = some node
-namedNode TrainingInput = none
-namedNode BaselineInput = none
-namedNode OneKnot = none
+namedNode (Plain reason) = none
+namedNode (AtNode reason node) = some node
 
 -- a check's number: 0 where nothing is refused
 abbrev pub checkedNumber : Checked → ℕ

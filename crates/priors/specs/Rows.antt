@@ -1,8 +1,10 @@
 -- Rows: a list of (key, count) whose keys ascend strictly; the look-up of a key, and the changes of one key's row. There is one change, and touching, counting one
 -- more and counting one less are three cases of it. Assumes nothing.
 use Prim.Native.Nat.{ℕ, suc, _+_, _-_, _≤_, compare, Ordering, Ordering·lt, Ordering·eq, Ordering·gt}
+use mathlib.Core.Bool.{cond}
 use mathlib.Core.List.{List, [], _∷_, map}
 use mathlib.Core.Option.{Option, none, some}
+use lib.Dec.{eqb}
 
 pub record Row : Type 0 where
   pub key : ℕ
@@ -25,7 +27,13 @@ choose Ordering·lt x y z = x
 choose Ordering·eq x y z = y
 choose Ordering·gt x y z = z
 
--- the count of the key k. The search ends at the first row that is not below k
+-- the count of the row with the key k, if there is one: a look-up by exact key, in whatever order the rows stand
+unfoldable pub countOf : ℕ → List Row → Option ℕ
+countOf k [] = none
+countOf k (r ∷ rs) = cond (eqb (r .key) k) (some (r .count)) (countOf k rs)
+
+-- the same as a search of ascending rows finds it, which ends at the first row that is not below k. Where rows ascend it is `countOf` (`look-exact` of
+-- proofs/Exactly.antt)
 unfoldable pub look : ℕ → List Row → Option ℕ
 look k [] = none
 look k (r ∷ rs) = choose (compare k (r .key)) none (some (r .count)) (look k rs)

@@ -8,7 +8,15 @@ use lib.Ieee as Ieee
 use lib.Ieee.{Float, binary64, nan, ofBits}
 use Rattle.priors.specs.Limits.{maxTable}
 use Rattle.priors.specs.Below.{allBelow}
-use Rattle.priors.specs.Rules.{rule, firstBroken}
+use Rattle.priors.specs.Rules.{Rule, rule, firstBroken}
+
+-- what a call is lent as tables: ln gamma and digamma
+pub record LentTables : Type 0 where
+  pub G : List Float
+  pub D : List Float
+
+abbrev pub lentTables : List Float → List Float → LentTables
+lentTables G D = record { G = G; D = D }
 
 -- -2 ^ 40 and 2 ^ 40; `highest-is` and `lowest-is` of proofs/TableLaws.antt tie the bits to the numbers
 abbrev pub lowest : Float
@@ -36,5 +44,8 @@ entriesFit t = allBelow (length t - 1) (entryFits t)
 unfoldable pub lengthsFit : List Float → List Float → Bool
 lengthsFit g d = eqb (length g) (length d) && (leb 2 (length g) && leb (length g) maxTable)
 
+abbrev pub tableRules : List Float → List Float → List Rule
+tableRules g d = rule 1 (lengthsFit g d) ∷ rule 2 (entriesFit g) ∷ rule 2 (entriesFit d) ∷ []
+
 unfoldable pub tablesRefusal : List Float → List Float → ℕ
-tablesRefusal g d = firstBroken (rule 1 (lengthsFit g d) ∷ rule 2 (entriesFit g) ∷ rule 2 (entriesFit d) ∷ [])
+tablesRefusal g d = firstBroken (tableRules g d)

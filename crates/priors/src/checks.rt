@@ -13,6 +13,7 @@ use crate::records::RECORD_SIZE;
 use crate::records::Record;
 use crate::records::record_at;
 use crate::refusals::Checked;
+use crate::refusals::Reason;
 use crate::refusals::Refusal;
 
 pub const MAX_NODES: usize = 4096;
@@ -224,31 +225,31 @@ pub fn check_priors(nodes: &[u8], children: &[u8]) -> Checked
     ensures { λ r. ⌜ checkedNumber r ≡ priorsRefusal (now (nodes .entry)) (now (children .entry)) ⌝ }
 {
     if !whole_records(nodes, MAX_NODES) {
-        return Checked::Refused(Refusal::PriorSizes);
+        return Checked::Refused(Refusal::Plain(Reason::PriorSizes));
     }
     if !whole_records(children, MAX_CHILDREN) {
-        return Checked::Refused(Refusal::PriorSizes);
+        return Checked::Refused(Refusal::Plain(Reason::PriorSizes));
     }
     if !nodes_ascend(nodes) {
-        return Checked::Refused(Refusal::NodeOrder);
+        return Checked::Refused(Refusal::Plain(Reason::NodeOrder));
     }
     if !first_links_fit(nodes, children) {
-        return Checked::Refused(Refusal::Links);
+        return Checked::Refused(Refusal::Plain(Reason::Links));
     }
     if !next_links_fit(children) {
-        return Checked::Refused(Refusal::Links);
+        return Checked::Refused(Refusal::Plain(Reason::Links));
     }
     if !chains_fit(nodes, children) {
-        return Checked::Refused(Refusal::Links);
+        return Checked::Refused(Refusal::Plain(Reason::Links));
     }
     if !chains_ascend(nodes, children) {
-        return Checked::Refused(Refusal::ChainOrder);
+        return Checked::Refused(Refusal::Plain(Reason::ChainOrder));
     }
     if !counts_fit(children) {
-        return Checked::Refused(Refusal::ZeroPrior);
+        return Checked::Refused(Refusal::Plain(Reason::ZeroPrior));
     }
     if !totals_fit(nodes, children) {
-        return Checked::Refused(Refusal::ZeroPrior);
+        return Checked::Refused(Refusal::Plain(Reason::ZeroPrior));
     }
     Checked::Passed
 }

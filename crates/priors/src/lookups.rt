@@ -1,11 +1,11 @@
-// Looking up a node by its exact address, by halving, and a child along its node's chain, which ends where an address is past the
-// one wanted; and a prior's total.
+// Looking up a node by its exact address, by halving, and a child by its own along its node's chain, which ascends, so that the
+// walk ends where an address is past the one wanted; and a prior's total.
 ghost use mathlib.Core.Path.{_≡_};
 ghost use mathlib.Core.Bool.{true};
 ghost use Prim.Native.Nat.{_≤_};
 ghost use lib.ListN.{length};
 ghost use Rattle.priors.specs.Limits.{maxChain};
-ghost use Rattle.priors.specs.Rows.{look};
+ghost use Rattle.priors.specs.Rows.{countOf};
 ghost use Rattle.priors.specs.Priors.{records, recordCount, ascends, findRecord, chainOf, childrenOf, everyChild, nextLinkFits, priorOfNode, total};
 ghost use Rattle.priors.specs.Lookups.{nodeFound, childFound};
 use crate::records::RECORD_SIZE;
@@ -51,7 +51,8 @@ pub fn find_node(nodes: &[u8], rank: u64) -> NodeFound
 pub fn find_child(children: &[u8], first: u32, rank: u64) -> ChildFound
     requires { ⌜ first ≤ recordCount (now children) ⌝ }
     requires { ⌜ everyChild (now children) (nextLinkFits (now children)) ≡ true ⌝ }
-    ensures { λ r. ⌜ childFound r ≡ look rank (childrenOf (now (children .entry)) first) ⌝ }
+    requires { ⌜ ascends (chainOf (now children) first) ≡ true ⌝ }
+    ensures { λ r. ⌜ childFound r ≡ countOf rank (childrenOf (now (children .entry)) first) ⌝ }
 {
     let mut link = first as usize;
     while link != 0 {

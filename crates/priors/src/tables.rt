@@ -4,6 +4,7 @@ ghost use mathlib.Core.Path.{_≡_};
 ghost use Rattle.priors.specs.Refusals.{checkedNumber};
 ghost use Rattle.priors.specs.Tables.{within, entriesFit, lengthsFit, tablesRefusal};
 use crate::refusals::Checked;
+use crate::refusals::Reason;
 use crate::refusals::Refusal;
 
 pub const MAX_TABLE: usize = 1048576;
@@ -48,13 +49,13 @@ pub fn check_tables(g: &[f64], d: &[f64]) -> Checked
     ensures { λ r. ⌜ checkedNumber r ≡ tablesRefusal (now (g .entry)) (now (d .entry)) ⌝ }
 {
     if !lengths_fit(g, d) {
-        return Checked::Refused(Refusal::TableLengths);
+        return Checked::Refused(Refusal::Plain(Reason::TableLengths));
     }
     if !entries_fit(g) {
-        return Checked::Refused(Refusal::TableEntry);
+        return Checked::Refused(Refusal::Plain(Reason::TableEntry));
     }
     if !entries_fit(d) {
-        return Checked::Refused(Refusal::TableEntry);
+        return Checked::Refused(Refusal::Plain(Reason::TableEntry));
     }
     Checked::Passed
 }

@@ -1,11 +1,11 @@
 -- Tables, priors and then the sizes.
 -- Assumes nothing.
-use mathlib.Core.Path.{_≡_, sym, ap, _∙_}
-use native.Mathlib.Omega.{arith}
+use mathlib.Core.Path.{_≡_, refl, sym, ap, _∙_}
 use Rattle.priors.specs.Refusals.{numberOf, checkedNumber}
 use Rattle.priors.specs.Tables.{tablesRefusal}
 use Rattle.priors.specs.Priors.{priorsRefusal}
-use Rattle.baseline.proofs.InputLaws.{no-node, tables-first, priors-second, sizes-third, tables-le, priors-le}
+use Rattle.priors.proofs.RuleLaws.{namesNone, tables-keep, priors-keep, unnamed}
+use Rattle.baseline.proofs.InputLaws.{tables-first, priors-second, sizes-third}
 use borrow.Author.Needs.{needs}
 use Rattle.baseline.proofs.training.check_input.Statement.{statement}
 use Rattle.baseline.proofs.training.check_input.Tie as tie
@@ -37,7 +37,7 @@ returns c =
     let t = a .before .before in
     let st = t .before .before .before .before .before .before .before .before .before in
     let e : numberOf (a .r .given .0 .0) ≡ tablesRefusal (st .args .g .now) (st .args .d .now) = ap checkedNumber (sym (a .r .given .1)) ∙ t .check-tables .ensures in
-    (tables-first _ _ _ _ (a .r .given .0 .0) e, no-node (a .r .given .0 .0) (omega (arith, tables-le (st .args .g .now) (st .args .d .now))))
+    (tables-first _ _ _ _ (a .r .given .0 .0) e, unnamed (a .r .given .0 .0) (ap namesNone e ∙ tables-keep namesNone (st .args .g .now) (st .args .d .now) refl refl))
 
 returns-2 : tie.Need-returns-2
 returns-2 c =
@@ -47,7 +47,7 @@ returns-2 c =
     let st = t .before .before .before .before .before .before .before .before .before in
     let passed : tablesRefusal (st .args .g .now) (st .args .d .now) ≡ 0 = sym (t .check-tables .ensures) ∙ ap checkedNumber (p .before .enum-told .given .1) in
     let e : numberOf (a .r2 .given .0 .0) ≡ priorsRefusal (st .args .nodes .now) (st .args .children .now) = ap checkedNumber (sym (a .r2 .given .1)) ∙ p .check-priors .ensures in
-    (priors-second _ _ _ _ passed (a .r2 .given .0 .0) e, no-node (a .r2 .given .0 .0) (omega (arith, priors-le (st .args .nodes .now) (st .args .children .now))))
+    (priors-second _ _ _ _ passed (a .r2 .given .0 .0) e, unnamed (a .r2 .given .0 .0) (ap namesNone e ∙ priors-keep namesNone (st .args .nodes .now) (st .args .children .now) refl refl))
 
 returns-3 : tie.Need-returns-3
 returns-3 c =

@@ -10,7 +10,7 @@ use Rattle.priors.specs.declared.refusals.Checked.{Checked}
 use Rattle.priors.specs.Refusals.{numberOf, namedNode}
 use Rattle.book.specs.Calls.{zeros}
 use Rattle.divergence.specs.Numbers.{zero64}
-use Rattle.divergence.specs.Readings.{answered}
+use Rattle.divergence.specs.Readings.{refused, answered}
 use Rattle.baseline.specs.Training.{inputOf, stopped, reached, course, knotsOf, started, knotLengths}
 use Rattle.baseline.specs.Courses.{allEntered, ended}
 use Rattle.baseline.proofs.SampleLaws.{length-lt}
@@ -104,13 +104,11 @@ returns c =
     let stop : stopped (numberOf r) (namedNode r) ≡ allEntered (course x book) begun = ap (λ (e : Checked). ended e after) (sym (a .r .given .1)) ∙ run .run-all .ensures in
     let left = stopped-leaves x book knots values (st .pre) r begun stop in
     let same-book : length (run .run-all .last .1 .1 .1 .1 .1 .1 .1 .1 .0) ≡ length book = omega arith in
-    let same-values : length after ≡ length values = omega arith in (
-      left .0,
-      (
-        c .before .before .before .before .before .before .before .before .before .before .clear .ensures ∙ ap zeros same-book ∙ left .1 .0,
-        (c .before .before .before .before .before .before .clear-knots .ensures ∙ left .1 .1 .0, c .before .before .clear-values .ensures ∙ ap (λ (n : ℕ). replicate n zero64) same-values ∙ left .1 .1 .1),
-      ),
-    )
+    let same-values : length after ≡ length values = omega arith in
+    let book-is = c .before .before .before .before .before .before .before .before .before .before .clear .ensures ∙ ap zeros same-book in
+    let knots-are = c .before .before .before .before .before .before .clear-knots .ensures in
+    let values-are = c .before .before .clear-values .ensures ∙ ap (λ (n : ℕ). replicate n zero64) same-values in
+    (λ i. record { answer = refused (numberOf r) (namedNode r); book = book-is i; knots = knots-are i; values = values-are i }) ∙ left
 
 same-length-4 : tie.Need-same-length-4
 same-length-4 c = search needs
@@ -137,13 +135,10 @@ returns-2 c =
     let done : reached after ≡ allEntered (course x book) (started (knotsOf x) values) =
     ap (λ (e : Checked). ended e after) (sym (c .before .before .before .before .before .before .before .before .enum-told .given .1)) ∙ run .run-all .ensures ∙ ap (λ (v : List Float). allEntered (course x book) v) sums-begun in
     let left = done-leaves x book knots values (st .pre) after done in
-    let same-book : length (run .run-all .last .1 .1 .1 .1 .1 .1 .1 .1 .0) ≡ length book = omega (arith, run .run-all .kept .1 .1 .1 .1 .1 .1 .1 .1 .0) in (
-      ap answered (count .ensures) ∙ left .0,
-      (
-        c .before .before .before .before .before .before .clear2 .ensures ∙ ap zeros same-book ∙ left .1 .0,
-        (c .before .before .put-lengths .ensures ∙ ap (λ (k : ℕ). knotLengths k rate ++ drop k knots) (count .ensures) ∙ left .1 .1 .0, left .1 .1 .1),
-      ),
-    )
+    let same-book : length (run .run-all .last .1 .1 .1 .1 .1 .1 .1 .1 .0) ≡ length book = omega (arith, run .run-all .kept .1 .1 .1 .1 .1 .1 .1 .1 .0) in
+    let book-is = c .before .before .before .before .before .before .clear2 .ensures ∙ ap zeros same-book in
+    let knots-are = c .before .before .put-lengths .ensures ∙ ap (λ (k : ℕ). knotLengths k rate ++ drop k knots) (count .ensures) in
+    (λ i. record { answer = answered (count .ensures i); book = book-is i; knots = knots-are i; values = after }) ∙ left
 
 pub work-spec : {M : Type 1} → statement M
 work-spec =

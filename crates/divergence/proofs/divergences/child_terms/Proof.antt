@@ -6,7 +6,7 @@ use mathlib.Core.List.{map}
 use Prim.Native.Nat.{ℕ, _+_, _-_, _*_, _≤_}
 use Rattle.priors.specs.Word.{word}
 use Rattle.priors.specs.Address.{rankAt}
-use Rattle.priors.specs.Rows.{look}
+use Rattle.priors.specs.Rows.{countOf}
 use Rattle.priors.specs.Priors.{childrenOf, countSum}
 use Rattle.divergence.specs.Nodes.{childRow}
 use Rattle.divergence.specs.Parts.{part}
@@ -75,9 +75,9 @@ loop-again c =
     let d = start .args .d .now in
     let t = start .args .t in
     let in-book = c .before .before .before .before .loop-test .taken in
-    let a : c .before .before .prior-count .result ≡ priorCount (look (rankAt book (24 * loop .loop .at + 12)) prior) = c .before .before .prior-count .ensures ∙ ap (λ (k : ℕ). priorCount (look k prior)) (c .before .before .before .rank-at .ensures) in
+    let a : c .before .before .prior-count .result ≡ priorCount (countOf (rankAt book (24 * loop .loop .at + 12)) prior) = c .before .before .prior-count .ensures ∙ ap (λ (k : ℕ). priorCount (countOf k prior)) (c .before .before .before .rank-at .ensures) in
     let e : c .before .read-u32 .result ≡ word book (24 * loop .loop .at + 20) = c .before .read-u32 .ensures in
-    let is : c .term .result ≡ term g d t (loop .loop .s) (priorCount (look (rankAt book (24 * loop .loop .at + 12)) prior)) (word book (24 * loop .loop .at + 20)) = cc in (
+    let is : c .term .result ≡ term g d t (loop .loop .s) (priorCount (countOf (rankAt book (24 * loop .loop .at + 12)) prior)) (word book (24 * loop .loop .at + 20)) = cc in (
       search needs,
       loop .loop .inv .1 ∙ terms-on book (loop .before .before .before .before .shared-slice-known .given) (loop .loop .at) (start .args .to) in-book g d t prior (loop .loop .s) ∙ sym (ap (λ (s : Sums). childTerms g d t prior s (map childRow (part book (loop .loop .at + 1) (start .args .to)))) is),
       omega (arith, sum-on book (loop .loop .at) (start .args .to) in-book),

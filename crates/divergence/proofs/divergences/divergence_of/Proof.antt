@@ -26,7 +26,7 @@ ending-term-requires : tie.Need-ending-term-requires
 unfolding total
 ending-term-requires c κs =
     let start = c .before .before .before .before .before .before in
-    let pre = start .pre .1 .1 .1 .1 in
+    let pre = start .pre .1 .1 .1 .1 .1 in
     let e = evidence-total (start .args .book .now) (start .args .i) (start .args .to) (start .pre .0) in (
       omega (arith, c .before .read-u32 .ensures, pre .0, pre .1 .0, pre .1 .1 .0, pre .1 .1 .1),
       (omega (arith, pre .0, pre .1 .0, pre .1 .1 .0, pre .1 .1 .1), omega (arith, pre .1 .0, pre .1 .1 .0, pre .1 .1 .1)),
@@ -39,7 +39,7 @@ child-terms-requires : tie.Need-child-terms-requires
 unfolding total
 child-terms-requires c κs =
     let start = c .before .before .before .before .before .before .before in
-    let pre = start .pre .1 .1 .1 .1 in
+    let pre = start .pre .1 .1 .1 .1 .1 in
     let e = evidence-total (start .args .book .now) (start .args .i) (start .args .to) (start .pre .0) in
     let on = sum-on (start .args .book .now) (start .args .i) (start .args .to) (start .pre .0) in (
       omega (arith, start .pre .0),
@@ -47,7 +47,7 @@ child-terms-requires c κs =
         start .pre .1 .0,
         (
           start .pre .1 .1 .0,
-          (start .pre .1 .1 .1 .0, (omega (arith, pre .0), (omega (arith, e, on, pre .0, pre .1 .0, pre .1 .1 .0), pre .1 .1 .1))),
+          (start .pre .1 .1 .1 .0, (start .pre .1 .1 .1 .1 .0, (omega (arith, pre .0), (omega (arith, e, on, pre .0, pre .1 .0, pre .1 .1 .0), pre .1 .1 .1)))),
         ),
       ),
     )
@@ -55,14 +55,14 @@ child-terms-requires c κs =
 closed-requires : tie.Need-closed-requires
 closed-requires c κs =
     let start = c .before .before .before .before .before .before .before .before in
-    let pre = start .pre .1 .1 .1 .1 in
+    let pre = start .pre .1 .1 .1 .1 .1 in
     (omega (arith, pre .1 .0, pre .1 .1 .0), pre .1 .1 .0)
 
 returns : tie.Need-returns
 unfolding divergence
 returns c =
     let start = c .before .before .before .before .before .before .before .before .before in
-    let pre = start .pre .1 .1 .1 .1 in
+    let pre = start .pre .1 .1 .1 .1 .1 in
     let t-is : start .args .t ≡ total (priorOfNode (start .args .children .now) (start .args .node)) = pre .0 in
     let u-is : start .args .u ≡ start .args .t + total (evidenceAt (start .args .book .now) (start .args .i) (start .args .to)) = pre .1 .0 in
     cc

@@ -45,7 +45,7 @@ lacks-child-requires c κs =
     let ok = accepted nodes children (start .pre .1 .1 .1) in
     let found = sym (c .before .before .before .find-node .ensures) ∙ ap nodeFound (c .before .node .given .1) in
     let chain = found-fits nodes children ok (ranked .rank-at .result) _ found in
-    (search needs, (search needs, (chain .link-fits, ok .rising)))
+    (search needs, (search needs, (chain .link-fits, (ok .rising, chain .ascending))))
 
 returns : tie.Need-returns
 returns c =

@@ -3,7 +3,7 @@ use borrow.Author.Needs.{needs}
 use mathlib.Core.Path.{_≡_, refl, sym, ap, _∙_}
 use mathlib.Core.List.{map}
 use Prim.Native.Nat.{ℕ, _-_, _≤_}
-use Rattle.priors.specs.Rows.{look}
+use Rattle.priors.specs.Rows.{countOf}
 use Rattle.priors.specs.Priors.{childrenOf}
 use Rattle.divergence.specs.Nodes.{childRow}
 use Rattle.divergence.specs.Parts.{part}
@@ -39,7 +39,7 @@ returns c =
     let start = loop .before .before .before in
     let prior = childrenOf (start .args .children .now) (start .args .first) in
     let here = c .before .before .rank-at .ensures in
-    sym (loop .loop .inv .1 ∙ lacks-here (start .args .book .now) (loop .before .before .shared-slice-known .given) (loop .loop .at) (start .args .to) (c .before .before .before .loop-test .taken) prior (ap (λ (k : ℕ). isNone (look k prior)) (sym here) ∙ sym (c .before .lacks .ensures) ∙ c .if1 .taken))
+    sym (loop .loop .inv .1 ∙ lacks-here (start .args .book .now) (loop .before .before .shared-slice-known .given) (loop .loop .at) (start .args .to) (c .before .before .before .loop-test .taken) prior (ap (λ (k : ℕ). isNone (countOf k prior)) (sym here) ∙ sym (c .before .lacks .ensures) ∙ c .if1 .taken))
 
 add-at : tie.Need-add-at Inv-loop μ-loop
 add-at c = search needs
@@ -54,7 +54,7 @@ loop-again c =
     let prior = childrenOf (start .args .children .now) (start .args .first) in
     let here = c .before .before .rank-at .ensures in (
       search needs,
-      loop .loop .inv .1 ∙ lacks-on (start .args .book .now) (loop .before .before .shared-slice-known .given) (loop .loop .at) (start .args .to) (c .before .before .before .loop-test .taken) prior (ap (λ (k : ℕ). isNone (look k prior)) (sym here) ∙ sym (c .before .lacks .ensures) ∙ c .if1 .left),
+      loop .loop .inv .1 ∙ lacks-on (start .args .book .now) (loop .before .before .shared-slice-known .given) (loop .loop .at) (start .args .to) (c .before .before .before .loop-test .taken) prior (ap (λ (k : ℕ). isNone (countOf k prior)) (sym here) ∙ sym (c .before .lacks .ensures) ∙ c .if1 .left),
     )
 
 returns-2 : tie.Need-returns-2 Inv-loop μ-loop

@@ -1,7 +1,8 @@
 -- `stop_at` meets its contract: each case is the definition's.
 use mathlib.Core.Path.{sym, ap, _∙_}
 use Rattle.priors.specs.declared.addresses.Address.{Address}
-use Rattle.priors.specs.declared.refusals.Refusal.the-variants.{MissingChild, PastTable}
+use Rattle.priors.specs.declared.refusals.Refusal.the-variants.{AtNode}
+use Rattle.priors.specs.declared.refusals.NodeReason.the-variants.{MissingChild, PastTable}
 use Rattle.priors.specs.declared.refusals.Checked.the-variants.{Refused}
 use Rattle.divergence.specs.Fillings.{fitStop}
 use borrow.Author.Needs.{needs}
@@ -33,10 +34,10 @@ returns-2 : tie.Need-returns-2
 returns-2 c = sym (ap (fitStop (c .before .before .args .node)) (c .enum-told2 .given .1))
 
 returns-3 : tie.Need-returns-3
-returns-3 c = ap (λ (a : Address). Refused (MissingChild a)) (c .address-of .ensures) ∙ sym (ap (fitStop (c .before .before .before .args .node)) (c .before .enum-told3 .given .1))
+returns-3 c = ap (λ (a : Address). Refused (AtNode MissingChild a)) (c .address-of .ensures) ∙ sym (ap (fitStop (c .before .before .before .args .node)) (c .before .enum-told3 .given .1))
 
 returns-4 : tie.Need-returns-4
-returns-4 c = ap (λ (a : Address). Refused (PastTable a)) (c .address-of2 .ensures) ∙ sym (ap (fitStop (c .before .before .before .args .node)) (c .before .enum-told4 .given .1))
+returns-4 c = ap (λ (a : Address). Refused (AtNode PastTable a)) (c .address-of2 .ensures) ∙ sym (ap (fitStop (c .before .before .before .args .node)) (c .before .enum-told4 .given .1))
 
 pub stop-at-spec : {M : Type 1} → statement M
 stop-at-spec =

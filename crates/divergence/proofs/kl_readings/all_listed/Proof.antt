@@ -79,8 +79,8 @@ fill-all-requires c κs =
       ),
     )
 
-cast-t23 : tie.Need-cast-t23
-cast-t23 c = omega (arith, c .before .before .before .before .before .before .before .before .before .before .before .before .with-prior .ensures .1, c .before .before .before .before .before .before .before .before .before .before .before .before .before .before .before .before .before .before .before .before .pre .0)
+cast-filled : tie.Need-cast-filled
+cast-filled c = omega (arith, c .before .before .before .before .before .before .before .before .before .before .before .before .with-prior .ensures .1, c .before .before .before .before .before .before .before .before .before .before .before .before .before .before .before .before .before .before .before .before .pre .0)
 
 returns-3 : tie.Need-returns-3
 returns-3 c =
@@ -135,7 +135,7 @@ all-listed-spec =
     enum-known-r
     enum-told
     fill-all-requires
-    cast-t23
+    cast-filled
     returns-3
     same-length
     same-length-2

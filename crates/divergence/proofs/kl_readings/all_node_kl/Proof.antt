@@ -4,8 +4,8 @@ use mathlib.Core.List.{List}
 use Rattle.priors.specs.Rows.{Row}
 use Rattle.priors.specs.Refusals.{checkedNumber}
 use Rattle.divergence.specs.Nodes.{listedNodes}
-use Rattle.divergence.specs.Readings.{Reading, Divergences, nodesOf, room, allListed, allReading, allAddresses, allFigures}
-use Rattle.divergence.specs.Answers.{allResult}
+use Rattle.divergence.specs.Readings.{nodesOf, room, allListed, allReading}
+use Rattle.divergence.specs.Asked.{lentOutput, allTelling}
 use Rattle.divergence.proofs.WalkLaws.{part-all}
 use Rattle.divergence.proofs.CheckLaws.{refused-by, passed-by, tables-pass, priors-pass, used-fits, used-le}
 use borrow.Author.Needs.{needs}
@@ -54,7 +54,7 @@ returns c =
     let figures = start .args .figures .now in
     let t = start .args .t in
     let is = refused-by t book (start .args .queue .now) nodes children g d (c .before .r .given .0 .0) (allListed g d nodes children (nodesOf t book) (room addresses figures)) (sym (ap checkedNumber (c .before .r .given .1)) ∙ c .before .before .before .tested .ensures) in
-    (ap allResult is, (ap (λ (r : Reading Divergences). allAddresses r addresses) is, ap (λ (r : Reading Divergences). allFigures r figures) is))
+    ap (allTelling (lentOutput addresses figures)) is
 
 same-length : tie.Need-same-length
 same-length c = search needs
@@ -76,10 +76,8 @@ returns-2 c =
     let t = start .args .t in
     let passed = sym (c .before .before .before .before .before .before .before .before .before .before .tested .ensures) ∙ ap checkedNumber (c .before .before .before .before .before .before .before .before .enum-told .given .1) in
     let is = ap (λ (rs : List Row). allListed g d nodes children (listedNodes rs) (room addresses figures)) (part-all book (t .used)) ∙ passed-by t book (start .args .queue .now) nodes children g d passed (allListed g d nodes children (nodesOf t book) (room addresses figures)) in
-    let filled = c .before .before .before .before .all-listed .ensures in (
-      filled .0 ∙ ap allResult is,
-      (filled .1 .0 ∙ ap (λ (r : Reading Divergences). allAddresses r addresses) is, filled .1 .1 ∙ ap (λ (r : Reading Divergences). allFigures r figures) is),
-    )
+    let filled = c .before .before .before .before .all-listed .ensures in
+    (λ i. record { answer = filled .0 i; output = lentOutput (filled .1 .0 i) (filled .1 .1 i) }) ∙ ap (allTelling (lentOutput addresses figures)) is
 
 pub all-node-kl-spec : {M : Type 1} → statement M
 all-node-kl-spec =

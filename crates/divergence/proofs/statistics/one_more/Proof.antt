@@ -1,7 +1,8 @@
 -- `one_more` meets its contract: each case is the definition's.
 use mathlib.Core.Path.{sym, ap, _∙_}
 use Rattle.priors.specs.declared.addresses.Address.{Address}
-use Rattle.priors.specs.declared.refusals.Refusal.the-variants.{MissingChild, PastTable}
+use Rattle.priors.specs.declared.refusals.Refusal.the-variants.{AtNode}
+use Rattle.priors.specs.declared.refusals.NodeReason.the-variants.{MissingChild, PastTable}
 use Rattle.divergence.specs.declared.statistics.KLDivergenceStats.{KLDivergenceStats}
 use Rattle.divergence.specs.declared.statistics.Tallied.the-variants.{On, Stopped}
 use Rattle.divergence.specs.Tallies.{tallyOf}
@@ -47,13 +48,13 @@ returns-2 c =
 returns-3 : tie.Need-returns-3
 returns-3 c =
     let start = c .before .before .before .before in
-    ap (λ (a : Address). Stopped (MissingChild a)) (c .address-of .ensures)
+    ap (λ (a : Address). Stopped (AtNode MissingChild a)) (c .address-of .ensures)
     ∙ sym (ap (tallyOf (start .args .t) (start .args .node)) (c .before .enum-told2 .given .1))
 
 returns-4 : tie.Need-returns-4
 returns-4 c =
     let start = c .before .before .before .before in
-    ap (λ (a : Address). Stopped (PastTable a)) (c .address-of2 .ensures)
+    ap (λ (a : Address). Stopped (AtNode PastTable a)) (c .address-of2 .ensures)
     ∙ sym (ap (tallyOf (start .args .t) (start .args .node)) (c .before .enum-told3 .given .1))
 
 pub one-more-spec : {M : Type 1} → statement M

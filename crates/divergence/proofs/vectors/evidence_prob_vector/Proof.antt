@@ -1,5 +1,5 @@
 -- Each return is a case of the reading: form broken, or the vector of the evidence. Assumes nothing.
-use mathlib.Core.Path.{_≡_, refl, sym, ap, _∙_}
+use mathlib.Core.Path.{_≡_, sym, ap, _∙_}
 use mathlib.Core.Bool.{Bool, true, cond}
 use lib.IntN.{ℤ}
 use mir.Syntax.{w32}
@@ -7,6 +7,7 @@ use mir.ValLaws.{toZ-ofZ}
 use borrow.Author.Tests.{not-true, not-false}
 use Rattle.priors.specs.Address.{rankOf}
 use Rattle.book.specs.Form.{inForm}
+use Rattle.divergence.specs.Asked.{lentOutput}
 use Rattle.divergence.specs.Readings.{formRefusal, nodesOf, room}
 use Rattle.divergence.proofs.VectorLaws.{form-usable, evidence-form, evidence-formed}
 use borrow.Author.Needs.{needs}
@@ -24,7 +25,7 @@ returns c =
     let rank = rankOf (k .args .scale) (k .args .point) in
     let have = room (k .args .addresses .now) (k .args .figures .now) in
     let broken : form ≡ 9 = ap (λ (b : Bool). cond b 0 9) (sym (c .before .in-form .ensures) ∙ not-true _ (c .if1 .taken)) in
-    rw (evidence-form form listed rank have broken) (refl, (refl, refl))
+    rw (evidence-form form listed rank have broken)
 
 cast-evidence-vector : tie.Need-cast-evidence-vector
 cast-evidence-vector c = search needs
@@ -54,7 +55,7 @@ returns-2 c =
     let formed : form ≡ 0 = ap (λ (b : Bool). cond b 0 9) good in
     let ranked : c .before .before .before .before .before .before .before .rank-of .result ≡ rank = c .before .before .before .before .before .before .before .rank-of .ensures ∙ ap (λ (z : ℤ). rankOf z (k .args .point)) (toZ-ofZ w32 (k .args .scale) (k .fits .scale)) in
     let is = rw ranked at (c .before .before .before .before .evidence-vector .ensures) in
-    rw (evidence-formed form listed rank have formed) (is .result-is, (is .addresses-are, is .figures-are))
+    rw (evidence-formed form listed rank have formed) (λ i. record { answer = is .result-is i; output = lentOutput (is .addresses-are i) (is .figures-are i) })
 
 pub evidence-prob-vector-spec : {M : Type 1} → statement M
 evidence-prob-vector-spec =

@@ -1,5 +1,5 @@
 -- Each return is a case of the reading: priors refused, form broken, no prior, or the vector of prior and evidence. Assumes nothing.
-use mathlib.Core.Path.{_≡_, refl, sym, ap, _∙_}
+use mathlib.Core.Path.{_≡_, sym, ap, _∙_}
 use mathlib.Core.Bool.{Bool, true, cond}
 use Prim.Native.Nat.{ℕ}
 use mathlib.Core.Option.{none, some}
@@ -13,6 +13,7 @@ use Rattle.priors.specs.Lookups.{nodeFound}
 use Rattle.priors.specs.Priors.{records, findRecord, priorsRefusal}
 use Rattle.priors.proofs.PriorLaws.{accepted, found-fits}
 use Rattle.book.specs.Form.{inForm}
+use Rattle.divergence.specs.Asked.{lentOutput}
 use Rattle.divergence.specs.Readings.{formRefusal, nodesOf, room}
 use Rattle.divergence.proofs.VectorLaws.{form-usable, prob-refused, prob-form, prob-none, prob-some}
 use borrow.Author.Needs.{needs}
@@ -42,7 +43,7 @@ returns c =
     let have = room (k .args .addresses .now) (k .args .figures .now) in
     let passed : priorsRefusal nodes children ≡ 0 = sym (c .before .before .before .before .check-priors .ensures) ∙ ap checkedNumber (c .before .before .enum-told .given .1) in
     let broken : form ≡ 9 = ap (λ (b : Bool). cond b 0 9) (sym (c .before .in-form .ensures) ∙ not-true _ (c .if1 .taken)) in
-    rw (prob-form form nodes children listed rank have passed broken) (refl, (refl, refl))
+    rw (prob-form form nodes children listed rank have passed broken)
 
 rank-of-requires : tie.Need-rank-of-requires
 rank-of-requires c κs = search needs
@@ -90,7 +91,7 @@ returns-2 c =
     let rank = rankOf (k .args .scale) (k .args .point) in
     let have = room (k .args .addresses .now) (k .args .figures .now) in
     let refused : numberOf (c .before .r .given .0 .0) ≡ priorsRefusal nodes children = sym (ap checkedNumber (c .before .r .given .1)) ∙ c .before .before .before .check-priors .ensures in
-    rw (prob-refused form nodes children listed rank have (c .before .r .given .0 .0) refused) (refl, (refl, refl))
+    rw (prob-refused form nodes children listed rank have (c .before .r .given .0 .0) refused)
 
 same-length : tie.Need-same-length
 same-length c = search needs
@@ -114,7 +115,7 @@ returns-3 c =
     let ranked : c .before .before .before .before .before .before .before .before .before .before .before .before .rank-of .result ≡ rank = c .before .before .before .before .before .before .before .before .before .before .before .before .rank-of .ensures ∙ ap (λ (z : ℤ). rankOf z (k .args .point)) (toZ-ofZ w32 (k .args .scale) (k .fits .scale)) in
     let found : findRecord rank (records nodes) ≡ some prior = ap (λ (n : ℕ). findRecord n (records nodes)) (sym ranked) ∙ sym (c .before .before .before .before .before .before .before .before .before .before .before .find-node .ensures) ∙ ap nodeFound (c .before .before .before .before .before .before .before .before .before .prior .given .1) in
     let is = rw ranked at (c .before .before .before .before .posterior-vector .ensures) in
-    rw (prob-some form nodes children listed rank have passed formed prior found) (is .result-is, (is .addresses-are, is .figures-are))
+    rw (prob-some form nodes children listed rank have passed formed prior found) (λ i. record { answer = is .result-is i; output = lentOutput (is .addresses-are i) (is .figures-are i) })
 
 returns-4 : tie.Need-returns-4
 returns-4 c =
@@ -130,7 +131,7 @@ returns-4 c =
     let formed : form ≡ 0 = ap (λ (b : Bool). cond b 0 9) good in
     let ranked : c .before .before .before .rank-of .result ≡ rank = c .before .before .before .rank-of .ensures ∙ ap (λ (z : ℤ). rankOf z (k .args .point)) (toZ-ofZ w32 (k .args .scale) (k .fits .scale)) in
     let missing : findRecord rank (records nodes) ≡ none = ap (λ (n : ℕ). findRecord n (records nodes)) (sym ranked) ∙ sym (c .before .before .find-node .ensures) ∙ ap nodeFound (c .enum-told2 .given .1) in
-    rw (prob-none form nodes children listed rank have passed formed missing) (refl, (refl, refl))
+    rw (prob-none form nodes children listed rank have passed formed missing)
 
 pub prob-vector-spec : {M : Type 1} → statement M
 prob-vector-spec =

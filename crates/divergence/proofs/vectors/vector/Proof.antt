@@ -52,8 +52,8 @@ fill-requires c κs =
     let places : size .result .places ≡ length (counts .children) = ap (λ (z : Size). z .places) (size .ensures .0) in
     (k .pre .0, (omega (arith, places, c .before .before .before .before .before .if1 .left), omega (arith, places, c .before .before .before .if2 .left)))
 
-cast-t21 : tie.Need-cast-t21
-cast-t21 c =
+cast-filled : tie.Need-cast-filled
+cast-filled c =
     let k = c .before .before .before .before .before .before .before .before .before .before .before .before .before .before .before .before .before .before in
     let size = c .before .before .before .before .before .before .before .before .before .before .before .before .before .merged-size in
     let counts = mergedCounts (k .args .ending) (k .args .children .now) (k .args .first) (k .args .book .now) (k .args .from) (k .args .end) in
@@ -93,7 +93,7 @@ vector-spec =
     returns-2
     add-whole
     fill-requires
-    cast-t21
+    cast-filled
     figure-requires
     same-length
     same-length-2

@@ -2,6 +2,7 @@
 use mathlib.Core.Path.{ap, _∙_}
 use Prim.Native.Nat.{ℕ}
 use Rattle.divergence.specs.Readings.{Reading}
+use Rattle.baseline.specs.Training.{TrainAnswer}
 use Rattle.exports.specs.Codes.{code, written, scaleNamed, pointNamed}
 use Rattle.exports.specs.Outputs.{itself}
 use borrow.Author.Needs.{needs}
@@ -28,19 +29,20 @@ returns c =
     let trained = c .before .before .before .before .before .before .before .before .before .before in
     let start = trained .before .before .before .before .before .before .before .before .before .before .before .before in
     let said = trained .train .ensures in
+    let result = ap (λ (a : TrainAnswer). a .answer) said in
     let told = c .tell-trained .ensures in (
-      told .0 ∙ ap code (said .0),
+      told .0 ∙ ap code result,
       (
-        said .1 .0,
+        ap (λ (a : TrainAnswer). a .book) said,
         (
-          said .1 .1 .0,
+          ap (λ (a : TrainAnswer). a .knots) said,
           (
-            said .1 .1 .1,
+            ap (λ (a : TrainAnswer). a .values) said,
             (
-              told .1 .0 ∙ ap (λ (r : Reading ℕ). written itself r (start .args .count .now)) (said .0),
+              told .1 .0 ∙ ap (λ (r : Reading ℕ). written itself r (start .args .count .now)) result,
               (
-                told .1 .1 .0 ∙ ap (λ (r : Reading ℕ). scaleNamed r (start .args .node-scale .now)) (said .0),
-                told .1 .1 .1 ∙ ap (λ (r : Reading ℕ). pointNamed r (start .args .node-point .now)) (said .0),
+                told .1 .1 .0 ∙ ap (λ (r : Reading ℕ). scaleNamed r (start .args .node-scale .now)) result,
+                told .1 .1 .1 ∙ ap (λ (r : Reading ℕ). pointNamed r (start .args .node-point .now)) result,
               ),
             ),
           ),

@@ -1,9 +1,11 @@
 -- The reading is of the tracker with these numbers, and its answer is told.
 use mathlib.Core.Path.{ap, _∙_}
+use Rattle.priors.specs.Tables.{lentTables}
+use Rattle.priors.specs.Priors.{lentPriors}
 use Rattle.book.specs.declared.trackers.Tracker.{Tracker}
-use Rattle.divergence.specs.Readings.{Reading, Divergences, room, allAddresses, allFigures}
-use Rattle.divergence.specs.Asked.{allAsked}
-use Rattle.divergence.specs.Answers.{AllResult, allResult}
+use Rattle.divergence.specs.Readings.{Reading}
+use Rattle.divergence.specs.Asked.{seenOf, lentOutput, Telling, allAsked}
+use Rattle.divergence.specs.Answers.{AllResult}
 use Rattle.exports.specs.Codes.{code, written, scaleNamed, pointNamed}
 use Rattle.exports.specs.Outputs.{allCounts}
 use borrow.Author.Needs.{needs}
@@ -38,15 +40,15 @@ returns c =
     let d = start .args .d .now in
     let addresses = start .args .addresses .now in
     let figures = start .args .figures .now in
-    let same = ap (λ (t : Tracker). allAsked t book queue nodes children g d (room addresses figures)) (made .tracker-of .ensures) in
-    let said = asked .all-node-kl .ensures in
+    let same = ap (λ (t : Tracker). allAsked (seenOf t book queue) (lentTables g d) (lentPriors nodes children) (lentOutput addresses figures)) (made .tracker-of .ensures) in
+    let said = asked .all-node-kl .ensures ∙ same in
     let told = c .tell-all .ensures in
-    let result = said .0 ∙ ap allResult same in (
+    let result = ap (λ (t : Telling AllResult). t .answer) said in (
       told .0 ∙ ap code result,
       (
-        said .1 .0 ∙ ap (λ (r : Reading Divergences). allAddresses r addresses) same,
+        ap (λ (t : Telling AllResult). t .output .addresses) said,
         (
-          said .1 .1 ∙ ap (λ (r : Reading Divergences). allFigures r figures) same,
+          ap (λ (t : Telling AllResult). t .output .figures) said,
           (
             told .1 .0 ∙ ap (λ (r : Reading AllResult). written allCounts r (start .args .counts .now)) result,
             (

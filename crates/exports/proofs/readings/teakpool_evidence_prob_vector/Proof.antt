@@ -4,11 +4,10 @@ use mir.Syntax.{w32}
 use mir.ValLaws.{toZ-ofZ}
 use lib.IntN.{ℤ}
 use Rattle.priors.specs.Address.{rankOf}
-use Rattle.priors.specs.Priors.{Counts}
 use Rattle.book.specs.declared.trackers.Tracker.{Tracker}
-use Rattle.divergence.specs.Readings.{Reading, room, vectorAddresses, vectorFigures}
-use Rattle.divergence.specs.Asked.{evidenceAsked}
-use Rattle.divergence.specs.Answers.{VectorResult, vectorResult}
+use Rattle.divergence.specs.Readings.{Reading}
+use Rattle.divergence.specs.Asked.{seenOf, lentOutput, Telling, evidenceAsked}
+use Rattle.divergence.specs.Answers.{VectorResult}
 use Rattle.exports.specs.Codes.{code, written}
 use Rattle.exports.specs.Outputs.{placesOf, endingOf}
 use borrow.Author.Needs.{needs}
@@ -40,16 +39,16 @@ returns c =
     let addresses = start .args .addresses .now in
     let figures = start .args .figures .now in
     let same =
-    ap₂ (λ (t : Tracker) (scale : ℤ). evidenceAsked t book queue (rankOf scale (start .args .point)) (room addresses figures))
+    ap₂ (λ (t : Tracker) (scale : ℤ). evidenceAsked (seenOf t book queue) (rankOf scale (start .args .point)) (lentOutput addresses figures))
     (made .tracker-of .ensures) (toZ-ofZ w32 (start .args .scale) (start .fits .scale)) in
-    let said = asked .evidence-prob-vector .ensures in
+    let said = asked .evidence-prob-vector .ensures ∙ same in
     let told = c .tell-vector .ensures in
-    let result = said .0 ∙ ap vectorResult same in (
+    let result = ap (λ (t : Telling VectorResult). t .answer) said in (
       told .0 ∙ ap code result,
       (
-        said .1 .0 ∙ ap (λ (r : Reading Counts). vectorAddresses r addresses) same,
+        ap (λ (t : Telling VectorResult). t .output .addresses) said,
         (
-          said .1 .1 ∙ ap (λ (r : Reading Counts). vectorFigures r figures) same,
+          ap (λ (t : Telling VectorResult). t .output .figures) said,
           (
             told .1 .0 ∙ ap (λ (r : Reading VectorResult). written placesOf r (start .args .places .now)) result,
             told .1 .1 ∙ ap (λ (r : Reading VectorResult). written endingOf r (start .args .ending .now)) result,

@@ -1,8 +1,10 @@
 -- The reading is of the tracker with these numbers, and its answer is told.
 use mathlib.Core.Path.{ap, _∙_}
+use Rattle.priors.specs.Tables.{lentTables}
+use Rattle.priors.specs.Priors.{lentPriors}
 use Rattle.book.specs.declared.trackers.Tracker.{Tracker}
 use Rattle.divergence.specs.Readings.{Reading, Statistics}
-use Rattle.divergence.specs.Asked.{statsAsked}
+use Rattle.divergence.specs.Asked.{seenOf, statsAsked}
 use Rattle.exports.specs.Codes.{code, written, scaleNamed, pointNamed}
 use Rattle.exports.specs.Outputs.{fourFigures, threeCounts}
 use borrow.Author.Needs.{needs}
@@ -29,7 +31,7 @@ returns c =
     let children = start .args .children .now in
     let g = start .args .g .now in
     let d = start .args .d .now in
-    let result = asked .kl-div-stats .ensures ∙ ap (λ (t : Tracker). statsAsked t book queue nodes children g d) (made .tracker-of .ensures) in
+    let result = asked .kl-div-stats .ensures ∙ ap (λ (t : Tracker). statsAsked (seenOf t book queue) (lentTables g d) (lentPriors nodes children)) (made .tracker-of .ensures) in
     let told = c .tell-stats .ensures in (
       told .0 ∙ ap code result,
       (

@@ -5,9 +5,11 @@ use mir.ValLaws.{toZ-ofZ}
 use lib.IntN.{ℤ}
 use Rattle.priors.specs.Address.{rankOf}
 use lib.Ieee.{Float}
+use Rattle.priors.specs.Tables.{lentTables}
+use Rattle.priors.specs.Priors.{lentPriors}
 use Rattle.book.specs.declared.trackers.Tracker.{Tracker}
 use Rattle.divergence.specs.Readings.{Reading}
-use Rattle.divergence.specs.Asked.{klAsked}
+use Rattle.divergence.specs.Asked.{seenOf, klAsked}
 use Rattle.exports.specs.Codes.{code, written}
 use Rattle.exports.specs.Outputs.{itself}
 use borrow.Author.Needs.{needs}
@@ -35,7 +37,7 @@ returns c =
     let g = start .args .g .now in
     let d = start .args .d .now in
     let same =
-    ap₂ (λ (t : Tracker) (scale : ℤ). klAsked t book queue nodes children g d (rankOf scale (start .args .point)))
+    ap₂ (λ (t : Tracker) (scale : ℤ). klAsked (seenOf t book queue) (lentTables g d) (lentPriors nodes children) (rankOf scale (start .args .point)))
     (made .tracker-of .ensures) (toZ-ofZ w32 (start .args .scale) (start .fits .scale)) in
     let result = asked .posterior-kl-divergence .ensures ∙ same in
     let told = c .tell-kl .ensures in (

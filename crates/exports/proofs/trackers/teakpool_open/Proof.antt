@@ -23,12 +23,12 @@ returns c =
     let opening = c .before .before .before .before .before .before in
     let start = opening .before .before .before .before .before in
     let said = opening .open .ensures in (
-      c .tell-opened .ensures .0 ∙ ap (λ (a : BookAnswer). a .number) (said .0),
+      c .tell-opened .ensures .0 ∙ ap (λ (a : BookAnswer). a .number) said,
       (
-        said .1 .0,
+        ap (λ (a : BookAnswer). a .book) said,
         (
-          said .1 .1,
-          c .tell-opened .ensures .1 ∙ ap (λ (a : BookAnswer). numbersOr (a .state) (start .args .state .now)) (said .0),
+          ap (λ (a : BookAnswer). a .queue) said,
+          c .tell-opened .ensures .1 ∙ ap (λ (a : BookAnswer). numbersOr (a .state) (start .args .state .now)) said,
         ),
       ),
     )

@@ -25,7 +25,8 @@ find-child-requires c κs =
     let children = start .args .children .now in
     let ok = accepted nodes children (start .pre) in
     let is = sym (found .find-node .ensures) ∙ ap nodeFound (c .before .r .given .1) in
-    (found-fits nodes children ok (start .args .node) _ is .link-fits, ok .rising)
+    let chain = found-fits nodes children ok (start .args .node) _ is in
+    (chain .link-fits, (ok .rising, chain .ascending))
 
 enum-told-2 : tie.Need-enum-told-2
 enum-told-2 c = search needs

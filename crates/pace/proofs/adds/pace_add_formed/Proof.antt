@@ -1,9 +1,8 @@
 -- The add answers and leaves what the definitions say of the tracker with these numbers, and its state is told.
-use mathlib.Core.Path.{_≡_, ap, _∙_}
+use mathlib.Core.Path.{ap, _∙_}
 use Rattle.book.specs.declared.trackers.Tracker.{Tracker}
 use Rattle.book.specs.Form.{inForm}
-use Rattle.book.specs.Calls.{addNumber, addState, addBook, addQueue, addAnswer}
-use Rattle.book.proofs.CallLaws.{added-number, added-state}
+use Rattle.book.specs.Calls.{BookAnswer, addAnswer}
 use Rattle.exports.specs.Outputs.{trackerOf}
 use Rattle.exports.proofs.AnswerLaws.{add-left}
 use borrow.Author.Needs.{needs}
@@ -40,16 +39,14 @@ returns c =
     let t = made .tracker-of .ensures in
     let said = add .add-formed .ensures in
     let result = add .add-formed .result in
-    let answer = said .0 ∙ ap (λ (t : Tracker). addAnswer t book queue path) t in
-    let number = added-number (trackerOf state) book queue path result answer in
-    let after = added-state (trackerOf state) book queue path result answer in (
-      c .tell-added .ensures .0 ∙ number,
+    let answer = said ∙ ap (λ (t : Tracker). addAnswer t book queue path) t in (
+      c .tell-added .ensures .0 ∙ ap (λ (a : BookAnswer). a .number) answer,
       (
-        said .1 .0 ∙ ap (λ (t : Tracker). addBook t book queue path) t,
+        ap (λ (a : BookAnswer). a .book) answer,
         (
-          said .1 .1 ∙ ap (λ (t : Tracker). addQueue t book queue path) t,
+          ap (λ (a : BookAnswer). a .queue) answer,
           c .tell-added .ensures .1
-              ∙ add-left result (addNumber (trackerOf state) book queue path) (addState (trackerOf state) book queue path) state number after,
+              ∙ add-left result (addAnswer (trackerOf state) book queue path) state (ap (λ (a : BookAnswer). a .number) answer) (ap (λ (a : BookAnswer). a .state) answer),
         ),
       ),
     )

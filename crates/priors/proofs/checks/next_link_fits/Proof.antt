@@ -1,6 +1,6 @@
 use mathlib.Core.Path.{_≡_, ap}
 use native.Mathlib.Omega.{arith}
-use Prim.Native.Nat.{_+_, _-_, _≤_, _<_}
+use Prim.Native.Nat.{_+_, _≤_, _<_}
 use borrow.Author.Tests.{lt-ltb, le-ltb, eq-eqb, ne-eqb}
 use Rattle.priors.specs.declared.records.Record.{Record}
 use Rattle.priors.specs.Priors.{recordAt, nextLinkFits}

@@ -1,3 +1,5 @@
+-- `find_child` meets its contract: what is still to be searched of the chain has what the whole has, and where the chain ascends that is what an exact look-up
+-- finds.
 use mathlib.Core.Path.{_≡_, refl, sym, ap, _∙_}
 use native.Mathlib.Omega.{arith}
 use Prim.Native.Nat.{ℕ, _-_, _≤_, _<_}
@@ -8,6 +10,7 @@ use mathlib.Core.Option.{some}
 use Rattle.priors.specs.Rows.{row, look}
 use Rattle.priors.specs.Priors.{recordAt, recordCount, chainOf, childrenOf}
 use Rattle.priors.proofs.ChainLaws.{next-small, chain-end, chain-step, chain-length}
+use Rattle.priors.proofs.Exactly.{chain-exact}
 use Rattle.priors.proofs.Orders.{compare-lt, compare-gt, compare-self}
 use borrow.Author.Needs.{needs}
 use Rattle.priors.proofs.lookups.find_child.Statement.{statement}
@@ -37,9 +40,10 @@ returns c =
     let here = recordAt children (link - 1) in
     let is : c .before .before .record-at .result ≡ here = c .before .before .record-at .ensures in
     let step : look rank (childrenOf children (c .before .before .before .before .before .before .args .first)) ≡ look rank (childrenOf children link) = c .before .before .before .before .loop .inv .1 in
-    let on : childrenOf children link ≡ row (here .rank) (here .count) ∷ childrenOf children (here .link) = ap (map (λ (r : Record). row (r .rank) (r .count))) (chain-step children (c .before .before .before .before .before .before .pre .1) link (omega arith) (omega arith)) in
+    let on : childrenOf children link ≡ row (here .rank) (here .count) ∷ childrenOf children (here .link) = ap (map (λ (r : Record). row (r .rank) (r .count))) (chain-step children (c .before .before .before .before .before .before .pre .1 .0) link (omega arith) (omega arith)) in
     let low : rank < here .rank = omega (arith, ap (λ (r : Record). r .rank) is) in
-    sym (step ∙ ap (look rank) on ∙ rw (compare-lt rank (here .rank) low))
+    let exact = chain-exact children (c .before .before .before .before .before .before .args .first) rank (c .before .before .before .before .before .before .pre .1 .1) in
+    sym (sym exact ∙ step ∙ ap (look rank) on ∙ rw (compare-lt rank (here .rank) low))
 
 returns-2 : tie.Need-returns-2 Inv-loop μ-loop
 unfolding look
@@ -50,9 +54,10 @@ returns-2 c =
     let here = recordAt children (link - 1) in
     let is : c .before .before .before .before .record-at .result ≡ here = c .before .before .before .before .record-at .ensures in
     let step : look rank (childrenOf children (c .before .before .before .before .before .before .before .before .args .first)) ≡ look rank (childrenOf children link) = c .before .before .before .before .before .before .loop .inv .1 in
-    let on : childrenOf children link ≡ row (here .rank) (here .count) ∷ childrenOf children (here .link) = ap (map (λ (r : Record). row (r .rank) (r .count))) (chain-step children (c .before .before .before .before .before .before .before .before .pre .1) link (omega arith) (omega arith)) in
+    let on : childrenOf children link ≡ row (here .rank) (here .count) ∷ childrenOf children (here .link) = ap (map (λ (r : Record). row (r .rank) (r .count))) (chain-step children (c .before .before .before .before .before .before .before .before .pre .1 .0) link (omega arith) (omega arith)) in
     let same : here .rank ≡ rank = omega (arith, ap (λ (r : Record). r .rank) is) in
-    sym (step ∙ ap (look rank) on ∙ rw (same, compare-self rank) (ap (λ (r : Record). some (r .count)) (sym is)))
+    let exact = chain-exact children (c .before .before .before .before .before .before .before .before .args .first) rank (c .before .before .before .before .before .before .before .before .pre .1 .1) in
+    sym (sym exact ∙ step ∙ ap (look rank) on ∙ rw (same, compare-self rank) (ap (λ (r : Record). some (r .count)) (sym is)))
 
 cast-link : tie.Need-cast-link Inv-loop μ-loop
 cast-link c = search needs
@@ -62,7 +67,7 @@ loop-less c =
     let children = c .before .before .before .before .before .before .before .before .before .args .children .now in
     let link = c .before .before .before .before .before .before .before .loop .link in
     let next : c .before .before .before .before .before .record-at .result .link ≡ recordAt children (link - 1) .link = ap (λ (r : Record). r .link) (c .before .before .before .before .before .record-at .ensures) in
-    rw next (omega (arith, chain-length children (c .before .before .before .before .before .before .before .before .before .pre .1) link (omega arith) (omega arith)))
+    rw next (omega (arith, chain-length children (c .before .before .before .before .before .before .before .before .before .pre .1 .0) link (omega arith) (omega arith)))
 
 loop-again : tie.Need-loop-again Inv-loop μ-loop
 unfolding look
@@ -73,16 +78,17 @@ loop-again c =
     let here = recordAt children (link - 1) in
     let is : c .before .before .before .before .before .record-at .result ≡ here = c .before .before .before .before .before .record-at .ensures in
     let step : look rank (childrenOf children (c .before .before .before .before .before .before .before .before .before .args .first)) ≡ look rank (childrenOf children link) = c .before .before .before .before .before .before .before .loop .inv .1 in
-    let on : childrenOf children link ≡ row (here .rank) (here .count) ∷ childrenOf children (here .link) = ap (map (λ (r : Record). row (r .rank) (r .count))) (chain-step children (c .before .before .before .before .before .before .before .before .before .pre .1) link (omega arith) (omega arith)) in
+    let on : childrenOf children link ≡ row (here .rank) (here .count) ∷ childrenOf children (here .link) = ap (map (λ (r : Record). row (r .rank) (r .count))) (chain-step children (c .before .before .before .before .before .before .before .before .before .pre .1 .0) link (omega arith) (omega arith)) in
     let past : here .rank < rank = omega (arith, ap (λ (r : Record). r .rank) is) in
-    rw is (next-small children (c .before .before .before .before .before .before .before .before .before .pre .1) (link - 1) (omega arith), step ∙ ap (look rank) on ∙ rw (compare-gt rank (here .rank) past))
+    rw is (next-small children (c .before .before .before .before .before .before .before .before .before .pre .1 .0) (link - 1) (omega arith), step ∙ ap (look rank) on ∙ rw (compare-gt rank (here .rank) past))
 
 returns-3 : tie.Need-returns-3 Inv-loop μ-loop
 unfolding look
 returns-3 c =
     let children = c .before .before .before .args .children .now in
     let rank = c .before .before .before .args .rank in
-    sym (c .before .loop .inv .1 ∙ ap (λ (k : ℕ). look rank (childrenOf children k)) (c .loop-test .left) ∙ ap (λ (l : List Record). look rank (map (λ (r : Record). row (r .rank) (r .count)) l)) (chain-end children (c .before .before .before .pre .1)))
+    let exact = chain-exact children (c .before .before .before .args .first) rank (c .before .before .before .pre .1 .1) in
+    sym (sym exact ∙ c .before .loop .inv .1 ∙ ap (λ (k : ℕ). look rank (childrenOf children k)) (c .loop-test .left) ∙ ap (λ (l : List Record). look rank (map (λ (r : Record). row (r .rank) (r .count)) l)) (chain-end children (c .before .before .before .pre .1 .0)))
 
 pub find-child-spec : {M : Type 1} → statement M
 find-child-spec =

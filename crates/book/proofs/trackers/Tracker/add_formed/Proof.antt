@@ -1,10 +1,9 @@
 -- Each return has the number that its tests give; the rest follows from the number, and what no test turns back is added.
 -- Assumes nothing.
-use mathlib.Core.Path.{sym, ap, _∙_}
+use mathlib.Core.Path.{sym, _∙_}
 use mathlib.Core.Option.{some}
 use native.Mathlib.Omega.{arith}
 use borrow.Author.Tests.{not-true, not-false}
-use Rattle.book.specs.declared.trackers.Tracker.{Tracker}
 use Rattle.book.proofs.CallLaws.{add-refused, add-taken, path-wrong, paths-full, book-full, nothing-refused, form-used, form-ascends, form-endings, ready}
 use borrow.Author.Needs.{needs}
 use Rattle.book.proofs.trackers.Tracker.add_formed.Statement.{statement}
@@ -93,7 +92,7 @@ returns-4 c =
     let h = c .before .before .before .before .before .before .before .before in
     let a = c .before .before .before .before .add-within .ensures in
     let x = add-taken t s q p (nothing-refused t s q p (st .pre) whole (omega arith) (sym (h .has-room .ensures) ∙ not-false (h .has-room .result) (c .before .before .before .before .before .before .before .if3 .left))) in
-    (ap (λ (t : Tracker). record { number = 0; state = some t }) (a .0) ∙ x .0, (a .1 .0 ∙ x .1 .0, a .1 .1 ∙ x .1 .1))
+    (λ i. record { number = 0; state = some (a .0 i); book = a .1 .0 i; queue = a .1 .1 i }) ∙ x
 
 pub add-formed-spec : {M : Type 1} → statement M
 add-formed-spec =

@@ -1,8 +1,9 @@
+-- `reason_number` meets its contract: each variant has the number that the definition gives it.
 use mathlib.Core.Path.{sym, ap}
 use borrow.Author.Needs.{needs}
-use Rattle.priors.specs.Refusals.{numberOf}
-use Rattle.priors.proofs.refusals.number.Statement.{statement}
-use Rattle.priors.proofs.refusals.number.Tie as tie
+use Rattle.priors.specs.Refusals.{reasonNumber}
+use Rattle.priors.proofs.refusals.reason_number.Statement.{statement}
+use Rattle.priors.proofs.refusals.reason_number.Tie as tie
 
 enum-told : tie.Need-enum-told
 enum-told c = search needs
@@ -52,68 +53,56 @@ enum-told-15 c = search needs
 enum-told-16 : tie.Need-enum-told-16
 enum-told-16 c = search needs
 
-enum-told-17 : tie.Need-enum-told-17
-enum-told-17 c = search needs
-
-enum-told-18 : tie.Need-enum-told-18
-enum-told-18 c = search needs
-
 returns : tie.Need-returns
-returns c = sym (ap numberOf (c .enum-told .given .1))
+returns c = sym (ap reasonNumber (c .enum-told .given .1))
 
 returns-2 : tie.Need-returns-2
-returns-2 c = sym (ap numberOf (c .enum-told2 .given .1))
+returns-2 c = sym (ap reasonNumber (c .enum-told2 .given .1))
 
 returns-3 : tie.Need-returns-3
-returns-3 c = sym (ap numberOf (c .enum-told3 .given .1))
+returns-3 c = sym (ap reasonNumber (c .enum-told3 .given .1))
 
 returns-4 : tie.Need-returns-4
-returns-4 c = sym (ap numberOf (c .enum-told4 .given .1))
+returns-4 c = sym (ap reasonNumber (c .enum-told4 .given .1))
 
 returns-5 : tie.Need-returns-5
-returns-5 c = sym (ap numberOf (c .enum-told5 .given .1))
+returns-5 c = sym (ap reasonNumber (c .enum-told5 .given .1))
 
 returns-6 : tie.Need-returns-6
-returns-6 c = sym (ap numberOf (c .enum-told6 .given .1))
+returns-6 c = sym (ap reasonNumber (c .enum-told6 .given .1))
 
 returns-7 : tie.Need-returns-7
-returns-7 c = sym (ap numberOf (c .enum-told7 .given .1))
+returns-7 c = sym (ap reasonNumber (c .enum-told7 .given .1))
 
 returns-8 : tie.Need-returns-8
-returns-8 c = sym (ap numberOf (c .enum-told8 .given .1))
+returns-8 c = sym (ap reasonNumber (c .enum-told8 .given .1))
 
 returns-9 : tie.Need-returns-9
-returns-9 c = sym (ap numberOf (c .enum-told9 .given .1))
+returns-9 c = sym (ap reasonNumber (c .enum-told9 .given .1))
 
 returns-10 : tie.Need-returns-10
-returns-10 c = sym (ap numberOf (c .enum-told10 .given .1))
+returns-10 c = sym (ap reasonNumber (c .enum-told10 .given .1))
 
 returns-11 : tie.Need-returns-11
-returns-11 c = sym (ap numberOf (c .enum-told11 .given .1))
+returns-11 c = sym (ap reasonNumber (c .enum-told11 .given .1))
 
 returns-12 : tie.Need-returns-12
-returns-12 c = sym (ap numberOf (c .enum-told12 .given .1))
+returns-12 c = sym (ap reasonNumber (c .enum-told12 .given .1))
 
 returns-13 : tie.Need-returns-13
-returns-13 c = sym (ap numberOf (c .enum-told13 .given .1))
+returns-13 c = sym (ap reasonNumber (c .enum-told13 .given .1))
 
 returns-14 : tie.Need-returns-14
-returns-14 c = sym (ap numberOf (c .enum-told14 .given .1))
+returns-14 c = sym (ap reasonNumber (c .enum-told14 .given .1))
 
 returns-15 : tie.Need-returns-15
-returns-15 c = sym (ap numberOf (c .enum-told15 .given .1))
+returns-15 c = sym (ap reasonNumber (c .enum-told15 .given .1))
 
 returns-16 : tie.Need-returns-16
-returns-16 c = sym (ap numberOf (c .enum-told16 .given .1))
+returns-16 c = sym (ap reasonNumber (c .enum-told16 .given .1))
 
-returns-17 : tie.Need-returns-17
-returns-17 c = sym (ap numberOf (c .enum-told17 .given .1))
-
-returns-18 : tie.Need-returns-18
-returns-18 c = sym (ap numberOf (c .enum-told18 .given .1))
-
-pub number-spec : {M : Type 1} → statement M
-number-spec =
+pub reason-number-spec : {M : Type 1} → statement M
+reason-number-spec =
     tie.close
     (tie.spec
     enum-told
@@ -132,8 +121,6 @@ number-spec =
     enum-told-14
     enum-told-15
     enum-told-16
-    enum-told-17
-    enum-told-18
     returns
     returns-2
     returns-3
@@ -149,6 +136,4 @@ number-spec =
     returns-13
     returns-14
     returns-15
-    returns-16
-    returns-17
-    returns-18)
+    returns-16)
