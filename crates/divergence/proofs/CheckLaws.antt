@@ -55,7 +55,7 @@ pub or-second : (a b : ℕ) → orElse a b ≡ 0 → b ≡ 0
 or-second zero b h = h
 or-second (suc a) b h = absurd (omega arith)
 
-form-true : (b : Bool) → _≡_ {A = ℕ} (cond b 0 9) 0 → b ≡ true
+pub form-true : (b : Bool) → _≡_ {A = ℕ} (cond b 0 9) 0 → b ≡ true
 form-true true h = refl
 form-true false h = absurd (omega arith)
 

@@ -8,11 +8,12 @@ use mathlib.Core.Option.{Option, none, some, Option·map}
 use lib.Dec.{eqb, leb}
 use lib.ListN.{length}
 use lib.Ieee.{Float}
-use borrow.Author.Tests.{le-leb, lt-leb, eqb-true, leb-false}
+use borrow.Author.Tests.{le-leb, lt-leb, eqb-true, leb-true, leb-false}
 use Rattle.priors.specs.declared.records.Record.{Record}
 use Rattle.priors.specs.Limits.{maxTable}
 use Rattle.priors.specs.Tables.{lengthsFit, tablesRefusal}
 use Rattle.priors.specs.Priors.{Counts, total, priorOfNode}
+use Rattle.priors.proofs.BelowLaws.{first-true, second-true}
 use Rattle.divergence.specs.declared.divergences.NodeDivergence.{NodeDivergence}
 use Rattle.divergence.specs.declared.divergences.NodeDivergence.the-variants.{Value, NoPrior, MissingChild, PastTable}
 use Rattle.divergence.specs.declared.divergences.NodeFit.{NodeFit}
@@ -84,11 +85,23 @@ fitting children size (some m) e n t u h = go (lacksChild (priorOfNode children 
           within = omega (arith, leb-false size (total (priorOfNode children m) + total e) q);
         }
 
--- accepted tables have one length
-pub tables-alike : (G D : List Float) → tablesRefusal G D ≡ 0 → length G ≡ length D
-unfolding tablesRefusal lengthsFit
-tables-alike G D h = eqb-true (length G) (length D) (go (eqb (length G) (length D)) (leb 2 (length G) && leb (length G) maxTable) _ h)
+-- accepted tables have one length, which is not too large
+lengths-fit : (G D : List Float) → tablesRefusal G D ≡ 0 → lengthsFit G D ≡ true
+unfolding tablesRefusal
+lengths-fit G D h = go (lengthsFit G D) _ h
   where
-    go : (a b : Bool) (rest : ℕ) → cond (a && b) rest 1 ≡ 0 → a ≡ true
-    go true b rest h = refl
-    go false b rest h = absurd (omega arith)
+    go : (b : Bool) (rest : ℕ) → cond b rest 1 ≡ 0 → b ≡ true
+    go true rest h = refl
+    go false rest h = absurd (omega arith)
+
+module _ (G D : List Float) (h : tablesRefusal G D ≡ 0) where
+  abbrev long : Bool
+  long = leb 2 (length G) && leb (length G) maxTable
+
+  pub tables-alike : length G ≡ length D
+  unfolding lengthsFit
+  tables-alike = eqb-true (length G) (length D) (first-true (eqb (length G) (length D)) long (lengths-fit G D h))
+
+  pub tables-few : length G ≤ maxTable
+  unfolding lengthsFit
+  tables-few = leb-true (length G) maxTable (second-true (leb 2 (length G)) (leb (length G) maxTable) (second-true (eqb (length G) (length D)) long (lengths-fit G D h)))

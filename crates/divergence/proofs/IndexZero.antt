@@ -46,19 +46,19 @@ same-entries x y t = λ j. allBelow (suc (length t) - 1) (λ i. within (same-at 
 -- ---- children of a prior
 
 -- one that is not missing has a count
-child-positive : (p : Counts) → Positive p → (k : ℕ) → isNone (countOf k (p .children)) ≡ false → 0 < priorCount (countOf k (p .children))
+pub child-positive : (p : Counts) → Positive p → (k : ℕ) → isNone (countOf k (p .children)) ≡ false → 0 < priorCount (countOf k (p .children))
 child-positive p positive k h = go (countOf k (p .children)) refl h
   where
     go : (o : Option ℕ) → countOf k (p .children) ≡ o → isNone o ≡ false → 0 < priorCount o
     go none e h = let z : _≡_ {A = ℕ} 0 1 = cc in absurd (omega arith)
     go (some c) e h = positive .count-positive k c e
 
-neither : (a b : Bool) → a || b ≡ false → (a ≡ false) × (b ≡ false)
+pub neither : (a b : Bool) → a || b ≡ false → (a ≡ false) × (b ≡ false)
 neither true b h = let z : _≡_ {A = ℕ} 0 1 = cc in absurd (omega arith)
 neither false b h = (refl, h)
 
 module _ (g g′ d d′ : Float) (G D : List Float) where
-  same-tables : tablesRefusal (g ∷ G) (d ∷ D) ≡ tablesRefusal (g′ ∷ G) (d′ ∷ D)
+  pub same-tables : tablesRefusal (g ∷ G) (d ∷ D) ≡ tablesRefusal (g′ ∷ G) (d′ ∷ D)
   unfolding tablesRefusal lengthsFit
   same-tables = rw (same-entries g g′ G, same-entries d d′ D)
 

@@ -26,3 +26,6 @@ pub mod NumberLaws
 pub mod Corollaries
 -- `IndexZero` has that no reading reads index 0 of a table.
 pub mod IndexZero
+-- goko's methods on f64 counts give what the readings tell:
+pub mod GokoLaws
+pub mod GokoReadings

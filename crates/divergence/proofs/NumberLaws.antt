@@ -76,7 +76,7 @@ listed-other G D nodes children rank none = nothing-other
 listed-other G D nodes children rank (some c) = divergence-other rank (nodeDivergence G D (priorOf nodes children rank) c)
 
 -- a walk ends by 14 or 15
-abbrev walkNumber : Walk → ℕ
+abbrev pub walkNumber : Walk → ℕ
 walkNumber (stopped n node) = n
 walkNumber (walked places skipped) = 0
 

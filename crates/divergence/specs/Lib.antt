@@ -21,3 +21,5 @@ pub mod RecountNodes
 pub mod Claims
 -- what follows from the claim, without the recount:
 pub mod Corollaries
+-- that the readings tell what goko's methods give on f64 counts:
+pub mod GokoFloats

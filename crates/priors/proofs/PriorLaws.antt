@@ -59,6 +59,14 @@ found-in k (x ∷ rs) r h = go (eqb (x .rank) k) h (found-in k rs r)
     go true h on = (0, (omega arith, cc))
     go false h on = let p = on h in (suc (p .0), (omega (arith, p .1 .0), p .1 .1))
 
+-- its count is a field
+pub found-small : (nodes : List ℕ) → Bytes nodes → (k : ℕ) (r : Record) → findRecord k (records nodes) ≡ some r → r .count < 2 ^ 32
+unfolding recordAt
+found-small nodes bytes k r h =
+    let p = found-in k (records nodes) r h in
+    let is : recordAt nodes (p .0) ≡ r = sym (getD-records nodes (p .0) (omega (arith, length-records nodes, p .1 .0))) ∙ p .1 .1 in
+    rw (← is) (word-lt nodes bytes (16 * p .0 + 8))
+
 -- a rule that every node record keeps holds for one that is found
 found-keeps : (nodes : List ℕ) (test : Record → Bool) → everyNode nodes (λ i. test (recordAt nodes i)) ≡ true → (k : ℕ) (r : Record) → findRecord k (records nodes) ≡ some r → test r ≡ true
 found-keeps nodes test all k r h =
