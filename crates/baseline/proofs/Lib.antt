@@ -13,3 +13,5 @@ pub mod WorkLaws
 pub mod Claimed
 -- what a sequence's records are of:
 pub mod KnotRecords
+-- no training reads index 0 of a table:
+pub mod IndexZero

@@ -8,14 +8,16 @@ use mathlib.Core.List.{List, [], _∷_, map}
 use mathlib.Core.Option.{none}
 use lib.Dec.{eqb}
 use lib.ListN.{length}
+use lib.Ieee.{Float}
 use Rattle.priors.specs.Tables.{lentTables}
 use Rattle.priors.specs.Priors.{lentPriors}
 use Rattle.book.specs.Figures.{All}
 use Rattle.book.specs.Claims.{opening, add, Machine, openRefusal, runs}
 use Rattle.divergence.specs.declared.statistics.KLDivergenceStats.{KLDivergenceStats}
 use Rattle.divergence.specs.Readings.{Reading, refused, nothing, answered}
+use Rattle.divergence.specs.Corollaries.{ZeroUnread}
 use Rattle.divergence.specs.Claims.{Call, change, read, klDivStats, Result, vector, kl, allKl, stats, Answer, changed, told, step}
-use Rattle.baseline.specs.Training.{Lent, Input, Until, stopped, reached, andThen, unlessStopped, pathIn, sequenceRecords, knotLengths, knotsOf}
+use Rattle.baseline.specs.Training.{Lent, Input, inputOf, Until, stopped, reached, andThen, unlessStopped, pathIn, sequenceRecords, knotLengths, knotsOf, trainAsked}
 
 -- m paths of a sequence, the first of which has the number i and lies in the place numbered first + i: each is added, and where i mod rate is 0 the statistics are read
 unfoldable pub callsFrom : Lent → ℕ → ℕ → ℕ → List Call
@@ -56,3 +58,9 @@ abbrev pub RecordForEachKnot : Type 0
 RecordForEachKnot =
     (x : Input) (bookSize q : ℕ) (rs : List KLDivergenceStats) → 1 ≤ x .lent .rate → sequenceRecords x bookSize q ≡ reached rs
     → map (λ (r : KLDivergenceStats). r .«sequence_len») rs ≡ knotLengths (knotsOf x) (x .lent .rate)
+
+-- what stands at index 0 of either table plays no part in a training, as in no reading
+abbrev pub IndexZeroUnread : Type 0
+IndexZeroUnread =
+    (nodes children sequences : List ℕ) (s n rate : ℕ) (book knots : List ℕ) (values : List Float)
+    → ZeroUnread (λ G D. trainAsked (inputOf G D nodes children sequences s n rate) book knots values)
