@@ -76,7 +76,7 @@ impl Tracker {
         self.add_formed(book, queue, path)
     }
 
-    // The same behind its form test.
+    // The same behind its form test. Not for users, who would have to show the form.
     pub fn add_formed(mut self, book: &mut [u8], queue: &mut [u8], path: &[u8]) -> Added
         requires { ⌜ inForm self (now book) (now queue) ≡ true ⌝ }
         ensures { λ r. ⌜ addedAnswer r (now (book .exit)) (now (queue .exit)) ≡ addAnswer self (now (book .entry)) (now (queue .entry)) (now (path .entry)) ⌝ }
