@@ -36,7 +36,7 @@ form-unnamed : (b : Bool) → namesNone (cond b 0 9) ≡ true
 form-unnamed true = refl
 form-unnamed false = refl
 
-checks-unnamed : (t : Tracker) (book queue nodes children : List ℕ) (G D : List Float) → namesNone (checksRefusal t book queue nodes children G D) ≡ true
+pub checks-unnamed : (t : Tracker) (book queue nodes children : List ℕ) (G D : List Float) → namesNone (checksRefusal t book queue nodes children G D) ≡ true
 checks-unnamed t book queue nodes children G D =
     or-keeps namesNone (tablesRefusal G D) (orElse (priorsRefusal nodes children) (formRefusal t book queue)) (tables-keep namesNone G D refl refl)
     (or-keeps namesNone (priorsRefusal nodes children) (formRefusal t book queue) (priors-unnamed nodes children) (form-unnamed (inForm t book queue)))

@@ -1,8 +1,8 @@
 -- goko's methods on f64 counts give what the readings' definitions have, as long as no total passes 2 ^ 53: sums of whole floats are those of the numbers (`Exact`), a
 -- count is above 0 as a float where it is as a number, and ln gamma and digamma are asked for at whole numbers from 1 on. Assumes nothing.
 use mathlib.Core.Path.{_≡_, refl, sym, ap, ap₂, _∙_}
-use mathlib.Core.Bool.{Bool, true, false, cond, true≢false}
-use Prim.Native.Nat.{ℕ, zero, suc, _+_, _*_, _^_, _≤_, _<_}
+use mathlib.Core.Bool.{Bool, true, false, cond, _||_, true≢false}
+use Prim.Native.Nat.{ℕ, zero, suc, _+_, _*_, _^_, _≤_, _<_, min}
 use native.Mathlib.Nat.{zero-add, zero-mul, add-comm}
 use native.Mathlib.Omega.{arith}
 use mathlib.Core.List.{List, [], _∷_, map}
@@ -16,23 +16,23 @@ use lib.Ieee.Exact.{HasValue}
 use borrow.Author.Tests.{ltb-true}
 use Rattle.priors.specs.Rows.{Row, keys, change, countOf}
 use Rattle.priors.specs.Priors.{Counts, countSum, total}
-use Rattle.priors.proofs.Orders.{Side, below, same, above, side}
+use Rattle.priors.proofs.Orders.{Side, below, same, above, side, Alike, alike, unlike, compared}
 use Rattle.priors.proofs.Tests.{ltb-same}
 use Rattle.priors.proofs.PriorLaws.{Positive}
 use Rattle.divergence.specs.declared.sums.Sums.{Sums}
 use Rattle.divergence.specs.Numbers.{fadd, fdiv, flt, zero64}
 use Rattle.divergence.specs.Probability.{figure, figuresOf, withEvidence, posterior}
 use Rattle.divergence.specs.Divergence.{noSums, term, endingTerm, priorCount, childTerms, noLess, closed, divergence, isNone, lacksChild}
-use Rattle.divergence.specs.GokoFloats.{FloatRow, floatRow, FloatCounts, floatRows, floatCounts, childSum, floatTotal, addChildPop, addChildren, addEvidence, divided, floatVector, floatOf, floatTerm, floatEnding, floatTerms, floatClosed, gokoKl, Tabled}
+use Rattle.book.specs.Figures.{inWindow}
+use Rattle.divergence.specs.declared.statistics.KLDivergenceStats.{KLDivergenceStats}
+use Rattle.divergence.specs.Statistics.{Place, noStats, counted, noted, statsOver}
+use Rattle.divergence.specs.GokoFloats.{gokoNoted, gokoNotedAll, gokoStats, gokoSequenceLen, whereFound, FloatRow, floatRow, FloatCounts, floatRows, floatCounts, childSum, floatTotal, addChildPop, addChildren, addEvidence, divided, floatVector, floatOf, floatTerm, floatEnding, floatTerms, floatClosed, gokoKl, Tabled}
+use Rattle.divergence.proofs.Constants.{tiny-is, max-is, min-is, zero-is}
 use Rattle.divergence.proofs.Exact.{flt-value, add-whole}
 use Rattle.divergence.proofs.SumLaws.{count-le}
 use Rattle.divergence.proofs.IndexZero.{child-positive, neither}
 
 -- ---- 0, and above 0
-
-zero-is : zero64 ≡ fin false 0 (pos 0)
-unfolding ofBits
-zero-is = refl
 
 zero-whole : zero64 ≡ flt 0
 unfolding ofBits ofInt
@@ -212,3 +212,48 @@ module _ (lnGamma digamma : Float → Float) (G D : List Float) (g : Tabled lnGa
           terms-whole (endingTerm G D (total p) noSums (p .ending) (e .ending)) (e .children) h (omega (arith, total-parts p, total-parts e)),
           closed-whole (total p) (total p + total e) t l k (omega arith),
         )
+
+-- where the prior lacks a child there is no figure, whatever the sums are by then
+module _ (lnGamma digamma : Float → Float) where
+  terms-none : (T : Float) (prior : List Row) (s : Sums) (es : List Row) → lacksChild prior es ≡ true → floatTerms lnGamma digamma T (floatRows prior) s (floatRows es) ≡ none
+  unfolding floatTerms lacksChild
+  terms-none T prior s [] h = let z : _≡_ {A = ℕ} 0 1 = cc in absurd (omega arith)
+  terms-none T prior s (e ∷ es) h = rw (float-found (e .key) prior) (go (countOf (e .key) prior) h (λ t i. terms-none T prior t es i))
+    where
+      go : (o : Option ℕ) → isNone o || lacksChild prior es ≡ true
+          → ((t : Sums) → lacksChild prior es ≡ true → floatTerms lnGamma digamma T (floatRows prior) t (floatRows es) ≡ none)
+          → whereFound (Option·map flt o) (λ a. floatTerms lnGamma digamma T (floatRows prior) (floatTerm lnGamma digamma T s a (flt (e .count))) (floatRows es)) ≡ none
+      go none h on = refl
+      go (some a) h on = on (floatTerm lnGamma digamma T s (flt a) (flt (e .count))) h
+
+  pub kl-none : (p e : Counts) → lacksChild (p .children) (e .children) ≡ true → gokoKl lnGamma digamma (floatCounts p) (floatCounts e) ≡ none
+  unfolding gokoKl
+  kl-none p e h =
+      let T = floatTotal (floatCounts p) in
+      ap (Option·map (floatClosed lnGamma digamma T (fadd (floatTotal (floatCounts e)) T)))
+      (terms-none T (p .children) (floatEnding lnGamma digamma T (flt (p .ending)) (flt (e .ending))) (e .children) h)
+
+-- ---- statistics
+
+noted-same : (s : KLDivergenceStats) (x : Float) → noted s x ≡ gokoNoted s x
+unfolding noted counted gokoNoted
+noted-same s x = ap (λ (c : Float). cond (lt c x) (counted s x) s) tiny-is
+
+noted-all : (s : KLDivergenceStats) (ps : List Place) → statsOver s ps ≡ gokoNotedAll s ps
+unfolding statsOver gokoNotedAll
+noted-all s [] = refl
+noted-all s (p ∷ ps) = noted-all (noted s (p .value)) ps ∙ ap (λ (r : KLDivergenceStats). gokoNotedAll r ps) (noted-same s (p .value))
+
+pub stats-same : (len : ℕ) (ps : List Place) → statsOver (noStats len) ps ≡ gokoStats len ps
+unfolding gokoStats
+stats-same len ps = noted-all (noStats len) ps ∙ rw (max-is, min-is, zero-whole)
+
+pub length-same : (window paths : ℕ) → inWindow window paths ≡ gokoSequenceLen window paths
+unfolding gokoSequenceLen
+length-same zero paths = refl
+length-same (suc w) paths = go (compared (suc w) 0) (compared (min (suc w) paths) 0)
+  where
+    go : Alike (suc w) 0 → Alike (min (suc w) paths) 0 → inWindow (suc w) paths ≡ gokoSequenceLen (suc w) paths
+    go (alike e t) b = absurd (omega arith)
+    go (unlike n t) (alike e u) = rw (t, u) (omega arith)
+    go (unlike n t) (unlike m u) = rw (t, u)

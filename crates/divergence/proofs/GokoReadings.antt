@@ -2,6 +2,7 @@
 -- 0 or past the tables' end. Assumes nothing.
 use mathlib.Core.Path.{_≡_, refl, sym, ap, _∙_}
 use mathlib.Core.Bool.{Bool, true, false, cond}
+use mathlib.Core.Logic.{_⊎_, inl, inr}
 use Prim.Native.Nat.{ℕ, zero, suc, _+_, _*_, _^_, _≤_, _<_}
 use native.Mathlib.Omega.{arith}
 use mathlib.Core.List.{List, [], _∷_}
@@ -15,6 +16,7 @@ use Rattle.priors.specs.Rows.{Row}
 use Rattle.priors.specs.Tables.{tablesRefusal}
 use Rattle.priors.specs.Priors.{LentPriors, Counts, countSum, total, records, findRecord, priorOf, priorOfNode, priorsRefusal}
 use Rattle.priors.proofs.Ranks.{Bytes}
+use Rattle.priors.proofs.RuleLaws.{namesNone}
 use Rattle.priors.proofs.PriorLaws.{accepted, Positive, prior-positive, found-small, found-fits, total-le}
 use Rattle.book.specs.declared.trackers.Tracker.{Tracker}
 use Rattle.book.specs.Limits.{maxCount}
@@ -37,11 +39,12 @@ use Rattle.divergence.specs.Readings.{Reading, refused, nothing, answere
 use Rattle.divergence.specs.Answers.{vectorResult, allResult}
 use Rattle.divergence.specs.Asked.{Output, vectorTelling, allTelling, roomIn}
 use Rattle.divergence.specs.Corollaries.{readingNumber}
-use Rattle.divergence.specs.GokoFloats.{floatCounts, floatVector, gokoProbVector, gokoEvidenceVector, whereFound, gokoKl, gokoNodeKl, gokoVisited, gokoAllKl, Tabled, vectorGiven, figureGiven, statsGiven, GokoGivesTheSame}
+use Rattle.divergence.specs.GokoFloats.{floatCounts, floatVector, gokoProbVector, gokoEvidenceVector, whereFound, gokoStats, gokoKl, gokoNodeKl, gokoVisited, gokoAllKl, Tabled, vectorGiven, figureGiven, statsGiven, GokoGivesTheSame}
 use Rattle.divergence.proofs.FitLaws.{tables-alike, tables-few}
-use Rattle.divergence.proofs.CheckLaws.{form-few, form-true}
+use Rattle.divergence.proofs.CheckLaws.{form-few, form-true, checks-unnamed, checks-are}
+use Rattle.divergence.specs.Checks.{checksRefusal}
 use Rattle.divergence.proofs.NumberLaws.{walkNumber}
-use Rattle.divergence.proofs.GokoLaws.{posterior-total, evidence-whole, vectorOf, vector-whole, vector-keys, vector-figures, kl-whole}
+use Rattle.divergence.proofs.GokoLaws.{kl-none, stats-same, length-same, posterior-total, evidence-whole, vectorOf, vector-whole, vector-keys, vector-figures, kl-whole}
 
 -- ---- a reading that is not refused has passed its checks
 
@@ -244,6 +247,81 @@ stats-number : (len : ℕ) (w : Walk) → readingNumber (statsReadingOf len w) �
 stats-number len (stopped n node) = refl
 stats-number len (walked ps k) = refl
 
+-- goko's loop over a list, with its sequence length
+stats-given : (t : Tracker) (d : Divergences) → statsReadingOf (sequenceLen t) (walked (d .places) (d .skipped)) ≡ statsGiven t d
+stats-given t d =
+    let is = stats-same (sequenceLen t) (d .places) ∙ ap (λ (n : ℕ). gokoStats n (d .places)) (length-same (t .window) (t .accepted)) in
+    λ i. answered (record { stats = is i; skipped = d .skipped })
+
+-- ---- a missing child
+
+-- a reading past checks that name no node
+fourteen : {X : Type 0} (n : ℕ) (r : Reading X) → namesNone n ≡ true → readingNumber (unless n r) ≡ 14 → readingNumber r ≡ 14
+fourteen zero r h e = e
+fourteen (suc n) r h e = let z : _≡_ {A = ℕ} 0 1 = cc (ap namesNone e) in absurd (omega arith)
+
+fitting-fourteen : {X : Type 0} (places have : ℕ) (r : Reading X) → readingNumber (fitting places have r) ≡ 14 → readingNumber r ≡ 14
+fitting-fourteen places have r h = go (ltb have places) h
+  where
+    go : (b : Bool) → readingNumber (cond b (refused 13 none) r) ≡ 14 → readingNumber r ≡ 14
+    go true h = absurd (omega arith)
+    go false h = h
+
+-- on to none is none
+never : {X Y : Type 0} (o : Option X) → whereFound {Y = Y} o (λ x. none) ≡ none
+never none = refl
+never (some x) = refl
+
+module _ (lnGamma digamma : Float → Float) (G D : List Float) where
+  -- what a node with a prior comes to: goko has no figure, or 14 does not come from it
+  node-lacks : (p e : Counts) → (gokoKl lnGamma digamma (floatCounts p) (floatCounts e) ≡ none) ⊎ ((nodeDivergence G D (some p) e ≡ PastTable) ⊎ (nodeDivergence G D (some p) e ≡ Value (divergence G D p e)))
+  unfolding nodeDivergence
+  node-lacks p e = go (lacksChild (p .children) (e .children)) refl (leb (length G) (total p + total e))
+    where
+      go : (a : Bool) → lacksChild (p .children) (e .children) ≡ a → (b : Bool)
+          → (gokoKl lnGamma digamma (floatCounts p) (floatCounts e) ≡ none)
+          ⊎ ((cond a MissingChild (cond b PastTable (Value (divergence G D p e))) ≡ PastTable) ⊎ (cond a MissingChild (cond b PastTable (Value (divergence G D p e))) ≡ Value (divergence G D p e)))
+      go true i b = inl (kl-none lnGamma digamma p e i)
+      go false i true = inr (inl refl)
+      go false i false = inr (inr refl)
+
+  one-lacks : (rank : ℕ) (o : Option Counts) (e : Counts) → readingNumber (divergenceReading rank (nodeDivergence G D o e)) ≡ 14 → gokoNodeKl lnGamma digamma o (some e) ≡ none
+  unfolding gokoNodeKl
+  one-lacks rank none e h = refl
+  one-lacks rank (some p) e h = go (node-lacks p e)
+    where
+      go : (gokoKl lnGamma digamma (floatCounts p) (floatCounts e) ≡ none) ⊎ ((nodeDivergence G D (some p) e ≡ PastTable) ⊎ (nodeDivergence G D (some p) e ≡ Value (divergence G D p e)))
+          → gokoKl lnGamma digamma (floatCounts p) (floatCounts e) ≡ none
+      go (inl i) = i
+      go (inr (inl i)) = let z : _≡_ {A = ℕ} 15 14 = sym (ap (λ (r : NodeDivergence). readingNumber (divergenceReading rank r)) i) ∙ h in absurd (omega arith)
+      go (inr (inr i)) = let z : _≡_ {A = ℕ} 0 14 = sym (ap (λ (r : NodeDivergence). readingNumber (divergenceReading rank r)) i) ∙ h in absurd (omega arith)
+
+  module _ (nodes children : List ℕ) where
+    listed-lacks : (rank : ℕ) (e : Option Counts) → readingNumber (ofListed G D nodes children rank e) ≡ 14 → gokoNodeKl lnGamma digamma (priorOf nodes children rank) e ≡ none
+    listed-lacks rank none h = absurd (omega arith)
+    listed-lacks rank (some e) h = one-lacks rank (priorOf nodes children rank) e h
+
+    visited-lacks : (node : ℕ) (o : Option Counts) (e : Counts) (rest : Option Divergences) (w : Walk) → (walkNumber w ≡ 14 → rest ≡ none)
+        → walkNumber (visited node (nodeDivergence G D o e) w) ≡ 14 → gokoVisited lnGamma digamma node o e rest ≡ none
+    unfolding nodeDivergence
+    visited-lacks node none e rest w on h = rw (on (sym (skipping-number w) ∙ h))
+    visited-lacks node (some p) e rest w on h = go (node-lacks p e)
+      where
+        number : (r : NodeDivergence) → nodeDivergence G D (some p) e ≡ r → walkNumber (visited node r w) ≡ 14
+        number r i = sym (ap (λ (x : NodeDivergence). walkNumber (visited node x w)) i) ∙ h
+
+        go : (gokoKl lnGamma digamma (floatCounts p) (floatCounts e) ≡ none) ⊎ ((nodeDivergence G D (some p) e ≡ PastTable) ⊎ (nodeDivergence G D (some p) e ≡ Value (divergence G D p e)))
+            → gokoVisited lnGamma digamma node (some p) e rest ≡ none
+        go (inl i) = rw i
+        go (inr (inl i)) = let z : _≡_ {A = ℕ} 15 14 = number PastTable i in absurd (omega arith)
+        go (inr (inr i)) = rw (on (sym (placed-number (record { address = node; value = divergence G D p e }) w) ∙ number (Value (divergence G D p e)) i)) (never (gokoKl lnGamma digamma (floatCounts p) (floatCounts e)))
+
+    walk-lacks : (ns : List Node) → walkNumber (walk G D nodes children ns) ≡ 14 → gokoAllKl lnGamma digamma (priorOf nodes children) ns ≡ none
+    unfolding walk gokoAllKl
+    walk-lacks [] h = absurd (omega arith)
+    walk-lacks (n ∷ ns) h =
+        visited-lacks (n .address) (priorOf nodes children (n .address)) (n .evidence) (gokoAllKl lnGamma digamma (priorOf nodes children) ns) (walk G D nodes children ns) (walk-lacks ns) h
+
 -- ---- the readings
 
 module _ (t : Tracker) (book queue : List ℕ) (priors : LentPriors) (nb : All (λ b. b < 256) (priors .nodes)) (cb : All (λ b. b < 256) (priors .children)) where
@@ -327,23 +405,57 @@ module _ (t : Tracker) (book queue : List ℕ) (priors : LentPriors) (nb : All (
         let x = walk-told r a (sym (walk-number w) ∙ f .1) in
         (x .0, x .1, ap (allTelling o) (a .is ∙ f .0 ∙ ap walkReading (x .2)))
 
-    stats-told : (len : ℕ) → readingNumber (statsReading form G D (priors .nodes) (priors .children) listed len) ≡ 0
-        → (x : Divergences) × (list ≡ some x) × (statsReading form G D (priors .nodes) (priors .children) listed len ≡ statsGiven len x)
+    stats-told : readingNumber (statsReading form G D (priors .nodes) (priors .children) listed (sequenceLen t)) ≡ 0
+        → (x : Divergences) × (list ≡ some x) × (statsReading form G D (priors .nodes) (priors .children) listed (sequenceLen t) ≡ statsGiven t x)
     unfolding statsReading
-    stats-told len h =
+    stats-told h =
         let w = walk G D (priors .nodes) (priors .children) listed in
+        let len = sequenceLen t in
         let a = passes (statsReadingOf len w) h in
         let x = walk-told (statsReadingOf len w) a (sym (stats-number len w) ∙ a .not-refused) in
-        (x .0, x .1, a .is ∙ ap (statsReadingOf len) (x .2))
+        (x .0, x .1, a .is ∙ ap (statsReadingOf len) (x .2) ∙ stats-given t (x .0))
+
+    -- ---- refused by 14
+
+    checked-fourteen : {X : Type 0} (r : Reading X) → readingNumber (unless (tablesRefusal G D) (unless priorsOf (unless form r))) ≡ 14 → readingNumber r ≡ 14
+    checked-fourteen r h =
+        fourteen (checksRefusal t book queue (priors .nodes) (priors .children) G D) r (checks-unnamed t book queue (priors .nodes) (priors .children) G D)
+        (ap readingNumber (sym (checks-are t book queue (priors .nodes) (priors .children) G D r)) ∙ h)
+
+    kl-fourteen : (rank : ℕ) → readingNumber (klReading form G D (priors .nodes) (priors .children) listed rank) ≡ 14
+        → gokoNodeKl lnGamma digamma (prior rank) (evidenceOf rank listed) ≡ none
+    unfolding klReading
+    kl-fourteen rank h = listed-lacks lnGamma digamma G D (priors .nodes) (priors .children) rank (evidenceOf rank listed) (checked-fourteen _ h)
+
+    walk-fourteen : walkNumber (walk G D (priors .nodes) (priors .children) listed) ≡ 14 → list ≡ none
+    walk-fourteen h = walk-lacks lnGamma digamma G D (priors .nodes) (priors .children) listed h
+
+    all-fourteen : (have : ℕ) → readingNumber (allReading form G D (priors .nodes) (priors .children) listed have) ≡ 14 → list ≡ none
+    unfolding allReading
+    all-fourteen have h =
+        let w = walk G D (priors .nodes) (priors .children) listed in
+        walk-fourteen (sym (walk-number w) ∙ fitting-fourteen (withPrior (priors .nodes) (priors .children) listed) have (walkReading w) (checked-fourteen _ h))
+
+    stats-fourteen : (len : ℕ) → readingNumber (statsReading form G D (priors .nodes) (priors .children) listed len) ≡ 14 → list ≡ none
+    unfolding statsReading
+    stats-fourteen len h =
+        let w = walk G D (priors .nodes) (priors .children) listed in
+        walk-fourteen (sym (stats-number len w) ∙ checked-fourteen (statsReadingOf len w) h)
 
 pub goko-gives-the-same : GokoGivesTheSame
 goko-gives-the-same t book queue tables priors nb cb lnGamma digamma g d rank o =
+    let G = tables .G in
+    let D = tables .D in
     let f = formRefusal t book queue in
     let ns = nodesOf t book in
-    let have = roomIn o in (
+    let have = roomIn o in
+    let all = all-number (allReading f G D (priors .nodes) (priors .children) ns have) in (
       λ h. prob-given t book queue priors nb cb rank o (sym (vector-number (probReading f (priors .nodes) (priors .children) ns rank have)) ∙ h),
       λ h. evidence-told t book queue priors nb cb rank o (sym (vector-number (evidenceReading f ns rank have)) ∙ h),
-      kl-told t book queue priors nb cb lnGamma digamma (tables .G) (tables .D) g d rank,
-      λ h. all-told t book queue priors nb cb lnGamma digamma (tables .G) (tables .D) g d o (sym (all-number (allReading f (tables .G) (tables .D) (priors .nodes) (priors .children) ns have)) ∙ h),
-      stats-told t book queue priors nb cb lnGamma digamma (tables .G) (tables .D) g d (sequenceLen t),
+      kl-told t book queue priors nb cb lnGamma digamma G D g d rank,
+      λ h. all-told t book queue priors nb cb lnGamma digamma G D g d o (sym all ∙ h),
+      stats-told t book queue priors nb cb lnGamma digamma G D g d,
+      kl-fourteen t book queue priors nb cb lnGamma digamma G D g d rank,
+      λ h. all-fourteen t book queue priors nb cb lnGamma digamma G D g d have (sym all ∙ h),
+      stats-fourteen t book queue priors nb cb lnGamma digamma G D g d (sequenceLen t),
     )

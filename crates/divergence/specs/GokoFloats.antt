@@ -1,23 +1,26 @@
 -- goko's `Categorical` and `Dirichlet`, whose counts are f64, by its own methods in its own order of operations (categorical.rs, dirichlet.rs, tracker.rs); and that
--- what a reading tells is what they give. The readings' own definitions keep whole numbers and make floats of them where they enter a figure. Assumes nothing.
-use Prim.Native.Nat.{ℕ, suc, _^_, _≤_, _<_, compare}
+-- what a reading tells of the evidence in the book is what they give of it, and that where it is refused by 14 they give none. The readings' own definitions keep
+-- whole numbers and make floats of them where they enter a figure. Assumes nothing.
+use Prim.Native.Nat.{ℕ, suc, _+_, _-_, _^_, _≤_, _<_, min, compare}
 use mathlib.Core.Path.{_≡_}
-use mathlib.Core.Bool.{cond}
+use mathlib.Core.Bool.{Bool, true, false, cond}
 use mathlib.Core.List.{List, [], _∷_, map}
 use mathlib.Core.Option.{Option, none, some, Option·map}
 use lib.Dec.{eqb}
 use lib.ListN.{length}
-use lib.Ieee.{Float, lt}
+use lib.IntN.{pos}
+use lib.Ieee.{Float, fin, binary64, round, lt}
 use Rattle.priors.specs.Rows.{Row, choose}
 use Rattle.priors.specs.Tables.{LentTables, tableAt}
 use Rattle.priors.specs.Priors.{LentPriors, Counts, priorOf}
 use Rattle.book.specs.declared.trackers.Tracker.{Tracker}
 use Rattle.book.specs.Figures.{All}
 use Rattle.divergence.specs.declared.sums.Sums.{Sums}
+use Rattle.divergence.specs.declared.statistics.KLDivergenceStats.{KLDivergenceStats}
 use Rattle.divergence.specs.Numbers.{fadd, fsub, fmul, fdiv, flt, zero64}
 use Rattle.divergence.specs.Nodes.{Node, evidenceOf}
 use Rattle.divergence.specs.Divergence.{noSums}
-use Rattle.divergence.specs.Statistics.{noStats, statsOver}
+use Rattle.divergence.specs.Statistics.{Place}
 use Rattle.divergence.specs.Readings.{Reading, nothing, answered, filledAddresses, filledFigures, Divergences, Statistics}
 use Rattle.divergence.specs.Answers.{VectorResult}
 use Rattle.divergence.specs.Asked.{seenOf, Output, lentOutput, Telling, allTelling, probAsked, evidenceAsked, klAsked, allAsked, statsAsked}
@@ -60,7 +63,7 @@ childSum x (r ∷ rs) = childSum (fadd x (r .count)) rs
 unfoldable pub floatTotal : FloatCounts → Float
 floatTotal c = fadd (c .singleton) (childSum zero64 (c .children))
 
--- `add_child_pop` of a child: its count grows, or it comes in at its place
+-- `add_child_pop` of a child: its count grows, or it comes in at its place. `child_counts` ascend strictly, and goko finds the place by halving
 unfoldable pub addChildPop : ℕ → Float → List FloatRow → List FloatRow
 addChildPop k x [] = floatRow k x ∷ []
 addChildPop k x (r ∷ rs) = choose (compare k (r .key)) (floatRow k x ∷ r ∷ rs) (floatRow (r .key) (fadd (r .count) x) ∷ rs) (r ∷ addChildPop k x rs)
@@ -98,7 +101,7 @@ abbrev pub whereFound : {X Y : Type 0} → Option X → (X → Option Y) → Opt
 whereFound none f = none
 whereFound (some x) f = f x
 
--- a child's count in `child_counts`
+-- a child's count in `child_counts`, which ascend strictly; goko finds it by halving
 unfoldable pub floatOf : ℕ → List FloatRow → Option Float
 floatOf k [] = none
 floatOf k (r ∷ rs) = cond (eqb (r .key) k) (some (r .count)) (floatOf k rs)
@@ -148,6 +151,37 @@ module _ (lnGamma digamma : Float → Float) where
   gokoAllKl prior [] = some (record { places = []; skipped = 0 })
   gokoAllKl prior (n ∷ ns) = gokoVisited (n .address) (prior (n .address)) (n .evidence) (gokoAllKl prior ns)
 
+-- ---- `kl_div_stats`
+
+-- the loop over the list: what is above 1.0e-10 enters sum, sum of squares, maximum, minimum and number
+unfoldable pub gokoNoted : KLDivergenceStats → Float → KLDivergenceStats
+gokoNoted s kl =
+    cond (lt (round binary64 false 1 (10 ^ 10)) kl)
+    (record {
+      max = cond (lt (s .max) kl) kl (s .max);
+      min = cond (lt kl (s .min)) kl (s .min);
+      «nz_count» = s .«nz_count» + 1;
+      «moment1_nz» = fadd (s .«moment1_nz») kl;
+      «moment2_nz» = fadd (s .«moment2_nz») (fmul kl kl);
+      «sequence_len» = s .«sequence_len»;
+    })
+    s
+
+unfoldable pub gokoNotedAll : KLDivergenceStats → List Place → KLDivergenceStats
+gokoNotedAll s [] = s
+gokoNotedAll s (p ∷ ps) = gokoNotedAll (gokoNoted s (p .value)) ps
+
+-- f64::MAX; f64::MIN is the same with a minus
+abbrev pub maxOf : Bool → Float
+maxOf minus = fin minus (2 ^ 53 - 1) (pos 971)
+
+unfoldable pub gokoStats : ℕ → List Place → KLDivergenceStats
+gokoStats len ps = gokoNotedAll (record { max = maxOf true; min = maxOf false; «nz_count» = 0; «moment1_nz» = flt 0; «moment2_nz» = flt 0; «sequence_len» = len }) ps
+
+-- `sequence_len`: the queue's length, or the number of paths where the queue is empty. It holds the last `window` paths, and with a window of 0 none
+unfoldable pub gokoSequenceLen : ℕ → ℕ → ℕ
+gokoSequenceLen window paths = let queued = cond (eqb window 0) 0 (min window paths) in cond (eqb queued 0) paths queued
+
 -- ---- what the readings tell is what these give
 
 -- the function has the table's values at whole numbers from 1 on
@@ -169,10 +203,11 @@ figureGiven none = nothing
 figureGiven (some x) = answered x
 
 -- `kl_div_stats` of goko's list
-abbrev pub statsGiven : ℕ → Divergences → Reading Statistics
-statsGiven sequenceLength d = answered (record { stats = statsOver (noStats sequenceLength) (d .places); skipped = d .skipped })
+abbrev pub statsGiven : Tracker → Divergences → Reading Statistics
+statsGiven t d = answered (record { stats = gokoStats (gokoSequenceLen (t .window) (t .accepted)) (d .places); skipped = d .skipped })
 
--- whatever tracker, tables and priors are lent, and whatever ln gamma and digamma are between the whole numbers: a reading that is not refused tells what goko gives
+-- whatever tracker, tables and priors are lent, and whatever ln gamma and digamma are between the whole numbers: a reading that is not refused tells what goko gives.
+-- One that is refused by 14 is one for which goko has none, of one node, or panics, of all
 abbrev pub GokoGivesTheSame : Type 0
 GokoGivesTheSame =
     (t : Tracker) (book queue : List ℕ) (tables : LentTables) (priors : LentPriors) → All (λ b. b < 256) (priors .nodes) → All (λ b. b < 256) (priors .children)
@@ -180,9 +215,14 @@ GokoGivesTheSame =
     → (rank : ℕ) (o : Output)
     → let s = seenOf t book queue in
     let prior = priorOf (priors .nodes) (priors .children) in
+    let evidence = evidenceOf rank (s .listed) in
+    let one = gokoNodeKl lnGamma digamma (prior rank) evidence in
     let list = gokoAllKl lnGamma digamma prior (s .listed) in
-    (readingNumber (probAsked s priors rank o .answer) ≡ 0 → probAsked s priors rank o ≡ vectorGiven o (gokoProbVector (prior rank) (evidenceOf rank (s .listed))))
-    × (readingNumber (evidenceAsked s rank o .answer) ≡ 0 → evidenceAsked s rank o ≡ vectorGiven o (gokoEvidenceVector (evidenceOf rank (s .listed))))
-    × (readingNumber (klAsked s tables priors rank) ≡ 0 → klAsked s tables priors rank ≡ figureGiven (gokoNodeKl lnGamma digamma (prior rank) (evidenceOf rank (s .listed))))
+    (readingNumber (probAsked s priors rank o .answer) ≡ 0 → probAsked s priors rank o ≡ vectorGiven o (gokoProbVector (prior rank) evidence))
+    × (readingNumber (evidenceAsked s rank o .answer) ≡ 0 → evidenceAsked s rank o ≡ vectorGiven o (gokoEvidenceVector evidence))
+    × (readingNumber (klAsked s tables priors rank) ≡ 0 → klAsked s tables priors rank ≡ figureGiven one)
     × (readingNumber (allAsked s tables priors o .answer) ≡ 0 → (d : Divergences) × (list ≡ some d) × (allAsked s tables priors o ≡ allTelling o (answered d)))
-    × (readingNumber (statsAsked s tables priors) ≡ 0 → (d : Divergences) × (list ≡ some d) × (statsAsked s tables priors ≡ statsGiven (s .sequenceLength) d))
+    × (readingNumber (statsAsked s tables priors) ≡ 0 → (d : Divergences) × (list ≡ some d) × (statsAsked s tables priors ≡ statsGiven t d))
+    × (readingNumber (klAsked s tables priors rank) ≡ 14 → one ≡ none)
+    × (readingNumber (allAsked s tables priors o .answer) ≡ 14 → list ≡ none)
+    × (readingNumber (statsAsked s tables priors) ≡ 14 → list ≡ none)
