@@ -9,7 +9,7 @@ use lib.Ieee.{Float, add, sub, mul, div, eq, le, ofInt, ofBits}
 use Rattle.priors.specs.Below.{allBelow, listOf}
 use Rattle.priors.specs.Word.{word, wordBytes, store}
 use Rattle.priors.specs.Address.{lift, rank, rankOf, addressOf}
-use Rattle.priors.specs.Rows.{Row, change, countOf}
+use Rattle.priors.specs.Rows.{Row, row, change, countOf}
 use Rattle.priors.specs.Tables as Tables
 use Rattle.priors.specs.Tables.{LentTables, lentTables}
 use Rattle.priors.specs.Priors.{LentPriors, lentPriors, Counts}
@@ -68,10 +68,11 @@ filledAndSkipped n k (answered a) = eqb (a .places) n && eqb (a .skipped) k
 filledAndSkipped n k nothing = false
 filledAndSkipped n k (refused m node) = false
 
-abbrev pub momentsAre : Float → Float → Reading Statistics → Bool
-momentsAre sum squares (answered a) = eq (a .stats .«moment1_nz») sum && eq (a .stats .«moment2_nz») squares
-momentsAre sum squares nothing = false
-momentsAre sum squares (refused n node) = false
+-- the moments, and how many nodes are skipped
+abbrev pub momentsAre : Float → Float → ℕ → Reading Statistics → Bool
+momentsAre sum squares k (answered a) = eq (a .stats .«moment1_nz») sum && (eq (a .stats .«moment2_nz») squares && eqb (a .skipped) k)
+momentsAre sum squares k nothing = false
+momentsAre sum squares k (refused n node) = false
 
 -- the sequence length of a record
 abbrev pub lengthIs : ℕ → Reading Statistics → Bool
@@ -84,15 +85,16 @@ isNothing (answered x) = false
 isNothing nothing = true
 isNothing (refused n node) = false
 
--- one child, with its address and its count, and the ending's count
-abbrev pub countsAre : ℕ → ℕ → ℕ → Option Counts → Bool
-countsAre child count ending none = false
-countsAre child count ending (some c) = eqb (c .ending) ending && one (c .children)
-  where
-    one : List Row → Bool
-    one (r ∷ []) = eqb (r .key) child && eqb (r .count) count
-    one [] = false
-    one (r ∷ s ∷ rs) = false
+-- these children, each with its address and its count, and the ending's count
+abbrev pub sameRows : List Row → List Row → Bool
+sameRows [] [] = true
+sameRows [] (y ∷ ys) = false
+sameRows (x ∷ xs) [] = false
+sameRows (x ∷ xs) (y ∷ ys) = eqb (x .key) (y .key) && (eqb (x .count) (y .count) && sameRows xs ys)
+
+abbrev pub countsAre : List Row → ℕ → Option Counts → Bool
+countsAre children ending none = false
+countsAre children ending (some c) = eqb (c .ending) ending && sameRows (c .children) children
 
 -- so many places are filled, and the ending has this figure
 abbrev pub filledWithEnding : ℕ → Float → Reading VectorResult → Bool
@@ -224,15 +226,17 @@ rows =
     figureIs (flt 6) (kl (tracker 3 (first ∷ [])) 7 (rank 1 7))
     ∷ filledAndSkipped 1 1 (allKl (tracker 3 (first ∷ [])) .answer)
     ∷ holds (addressOn 1 7 ++ listOf 16 (λ k. 5)) (flt 6 ∷ flt 5 ∷ flt 5 ∷ []) (allKl (tracker 3 (first ∷ [])) .output)
-    ∷ momentsAre (flt 6) (flt 36) (klStats (tracker 3 (first ∷ [])))
+    ∷ momentsAre (flt 6) (flt 36) 1 (klStats (tracker 3 (first ∷ [])))
     -- then add (1,7): ending 1, (0,9) stays with 0, divergence 10, length 1
-    ∷ countsAre (rank 0 9) 0 1 (evidence (tracker 3 (first ∷ second ∷ [])) (rank 1 7))
+    ∷ countsAre (row (rank 0 9) 0 ∷ []) 1 (evidence (tracker 3 (first ∷ second ∷ [])) (rank 1 7))
+    ∷ countsAre [] 0 (evidence (tracker 3 (first ∷ second ∷ [])) (rank 0 9))
     ∷ figureIs (flt 10) (kl (tracker 3 (first ∷ second ∷ [])) 7 (rank 1 7))
     ∷ lengthIs 1 (klStats (tracker 3 (first ∷ second ∷ [])))
     -- probabilities then 2/7, 3/7, ending 2/7; evidence of (0,9): none
     ∷ filledWithEnding 2 (fdiv (flt 2) (flt 7)) (probabilities (tracker 3 (first ∷ second ∷ [])) (rank 1 7) .answer)
     ∷ holds (addressOn 0 7 ++ (addressOn 0 9 ++ listOf 8 (λ k. 5))) (fdiv (flt 2) (flt 7) ∷ fdiv (flt 3) (flt 7) ∷ flt 5 ∷ []) (probabilities (tracker 3 (first ∷ second ∷ [])) (rank 1 7) .output)
     ∷ isNothing (evidenceOnly (tracker 3 (first ∷ second ∷ [])) (rank 0 9) .answer)
+    ∷ holds (fives .addresses) (fives .figures) (evidenceOnly (tracker 3 (first ∷ second ∷ [])) (rank 0 9) .output)
     -- tables ending at 6: 15, of the node (1,7)
     ∷ refusedAt 15 (rank 1 7) (kl (tracker 3 (first ∷ second ∷ [])) 6 (rank 1 7))
     -- first add, book of two entries: 12; of three: taken
@@ -241,6 +245,8 @@ rows =
     -- two sequences, maxima 6 and 10: mean 8, variance 4
     ∷ maximaAre (flt 8) (flt 4) (baselineReading (trained .knots) (trained .values) 2 1)
     -- means 8 at 1 and 10 at 11: 9 at 6, 12 at 21, 0 at 0
+    ∷ maximaAre (flt 8) zero64 (twoKnots 1)
+    ∷ maximaAre (flt 10) zero64 (twoKnots 11)
     ∷ maximaAre (flt 9) zero64 (twoKnots 6)
     ∷ maximaAre (flt 12) zero64 (twoKnots 21)
     ∷ maximaAre zero64 zero64 (twoKnots 0)
