@@ -5,3 +5,4 @@ pub mod checks; // tables and priors by themselves
 pub mod trackers; // opening a tracker, adding a path
 pub mod readings; // probabilities, divergences and their statistics
 pub mod baselines; // training, and a baseline's figures at a length
+pub mod version; // the library's version
