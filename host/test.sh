@@ -2,7 +2,7 @@
 # Builds the Rust side and runs its unit tests, the comparison with goko, and the replay of the
 # recorded sample; then what goes through the archive: the crate over it with its examples, the
 # comparison at scale, and the example day. Fails at the first failure. Needs no network. Without
-# goko's sources, or without the archive and rt, it says so in a line and goes on.
+# goko's sources it says so in a line and goes on.
 #
 #     test.sh [--lists N] [--seed S] [--long]
 #
@@ -38,16 +38,17 @@ if TEAKPOOL_ARCHIVE=none ../run target/none 2> target/none.out; then
 fi
 echo "target/none: there is no such file" | diff - target/none.out
 
-archive=${TEAKPOOL_ARCHIVE:-../target/staticlib/libexports.a}
-if [ -f "$archive" ] || { [ -d ../crates/exports ] && command -v rt >/dev/null; }; then
+if ../prebuilt/archive >target/archive.path; then
     ../run > target/example.out
     diff ../days/example.out target/example.out
     echo "the example day: the report is the stored one"
     cargo test --release --offline --quiet -p teakpool -p watch
+    cargo build --release --offline --quiet -p teakpool --no-default-features
     sed -n '/^```rust$/,/^```$/p' ../README.md | sed '/^```/d' | diff - teakpool/examples/readme.rs
     cargo run --release --offline --quiet -p through -- $long "$@"
     cargo check --release --offline --quiet -p bench
 else
-    echo "neither the archive nor what builds it is there: what goes through the archive is left out"
+    echo "there is no archive, and what goes through it is not tested"
+    exit 1
 fi
 echo "the Rust side: all checks passed"

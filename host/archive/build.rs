@@ -1,6 +1,6 @@
-//! Finds the proved archive: the file that TEAKPOOL_ARCHIVE names, else
-//! target/staticlib/libexports.a in the repository's root. Where that one is missing and `rt` is
-//! there, `rt staticlib exports` proves and writes it.
+//! Finds the proved archive: the file that TEAKPOOL_ARCHIVE names, else what `prebuilt/archive` in
+//! the repository's root chooses: the prebuilt one, or where the sources have changed since it was
+//! built the one that `rt` proves and builds from them.
 
 use std::path::{Path, PathBuf};
 use std::process::Command;
@@ -12,12 +12,8 @@ fn main() {
     println!("cargo:rerun-if-changed=build.rs");
     println!("cargo:rerun-if-env-changed={}", VARIABLE);
     let root = Path::new(&env::var("CARGO_MANIFEST_DIR").unwrap()).join("../..");
-    let own = root.join("target/staticlib/libexports.a");
-    let archive = env::var_os(VARIABLE).map_or(own.clone(), PathBuf::from);
+    let archive = env::var_os(VARIABLE).map_or_else(|| chosen(&root), PathBuf::from);
     println!("cargo:rerun-if-changed={}", archive.display());
-    if archive == own && !own.is_file() {
-        prove(&root);
-    }
     let Ok(archive) = fs::canonicalize(&archive) else {
         give_up(&format!("there is no archive at {}", archive.display()));
     };
@@ -30,24 +26,27 @@ fn main() {
     println!("cargo:rustc-link-lib=static={}", name);
 }
 
-/// Lets `rt` write the archive.
-fn prove(root: &Path) {
-    match Command::new("rt").args(["staticlib", "exports"]).current_dir(root).output() {
-        Ok(output) if output.status.success() => {}
-        Ok(output) => {
-            let said = String::from_utf8_lossy(&output.stdout);
-            let last: Vec<&str> = said.lines().rev().take(5).collect();
-            give_up(&format!("'rt staticlib exports' failed: {}", last.join(" / ")));
-        }
-        Err(_) => give_up("the archive target/staticlib/libexports.a is not there, and neither is rt"),
+/// The archive that `prebuilt/archive` chooses; it is asked again when anything that it looks at has
+/// changed.
+fn chosen(root: &Path) -> PathBuf {
+    for looked_at in ["prebuilt", "crates.txt", "crates"] {
+        println!("cargo:rerun-if-changed={}", root.join(looked_at).display());
     }
+    let Ok(output) = Command::new(root.join("prebuilt/archive")).output() else {
+        give_up("prebuilt/archive, which finds the archive, cannot be run");
+    };
+    let said = String::from_utf8_lossy(&output.stderr).into_owned();
+    if !output.status.success() {
+        eprint!("{}", said);
+        give_up("no archive was found");
+    }
+    for line in said.lines().filter(|line| line.contains("have changed")) {
+        println!("cargo:warning={}", line);
+    }
+    PathBuf::from(String::from_utf8_lossy(&output.stdout).trim_end())
 }
 
 fn give_up(why: &str) -> ! {
-    eprintln!("teakpool: {}.", why);
-    eprintln!(
-        "teakpool: run 'rt staticlib exports' in the repository's root, or let {} name the archive.",
-        VARIABLE
-    );
+    eprintln!("teakpool: {}; {} may name one.", why, VARIABLE);
     std::process::exit(1)
 }
