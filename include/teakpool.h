@@ -1,7 +1,12 @@
 /* The drift watch as a C library: paths through a tree are counted over a window, and the counts are held against priors.
  *
- * Link target/staticlib/libexports.a (made by `rt staticlib exports`, for x86-64 Linux). Beside it the archive wants memset of the C
- * library, and nothing else.
+ * Link libteakpool.a, which is for x86-64 Linux. Beside it the archive wants memset of the C library, and nothing else. The rules
+ * of the watch are in docs/RULES.md: what addresses, priors, book and queue are, each figure's formula, and what to do about each
+ * refusal.
+ *
+ * Every call is declared twice. The plain functions come first; they are what the archive has, and take each slice as a pointer and
+ * a length. After them the same calls take structs, one for each group of things lent, and are `static inline` over the plain ones.
+ * In these a slice or a group in another's place does not compile, and NULL stands for a slice of length 0.
  *
  * What every function returns
  *   TEAKPOOL_DONE (0)    the call is carried out and its answer is written;
@@ -20,14 +25,15 @@
  * several of them at once.
  *
  * What the caller promises. The proof of the library starts behind this border, and no call can test these:
- *   - no pointer is null, also where its length is 0 (any aligned address that is not 0 serves there);
+ *   - no pointer is NULL, also where its length is 0 (any aligned address that is not NULL serves there; the calls over structs put
+ *     one in NULL's place);
  *   - double and uint64_t are aligned to 8 bytes, uint32_t and int32_t to 4, bytes to 1;
  *   - a length is true: that many elements can be read, and written where the parameter is not const. Lengths count elements, so
  *     bytes where the elements are uint8_t. An array parameter such as state[3] has that many elements;
  *   - nothing that a call writes has a byte in common with anything else that it is lent. It writes where its parameters are not
  *     const. What it only reads may overlap: g and d may be one table;
  *   - no other thread writes what a call is lent, nor reads what it writes, while it runs.
- * Every content of the memory is allowed. What breaks a rule is refused by its number, or read as document 01 says of memory
+ * Every content of the memory is allowed. What breaks a rule is refused by its number, or read as docs/RULES.md says of memory
  * altered by others, and never out of bounds.
  *
  * Stack. No call takes more than TEAKPOOL_STACK bytes, beside what memset takes. examples/c/test.sh measures this in the archive's
@@ -55,12 +61,37 @@
  *   - lengths of 1 to 64 in the filled places of the queue, the lesser of window and paths accepted.
  * The test reads nothing else. In memory altered by others that has the form, an add that takes away from a count of 0 leaves 0 and
  * passes over an entry that is missing.
+ *
+ * How to live with 14 and 15. Both come up in a reading, after the path that brings them was added.
+ *   14  The node went on to a child that its prior does not have. A transition never seen in the prior is the strongest drift there
+ *       is: its divergence would be infinite. Once the path is in the book, every later teakpool_all_node_kl and
+ *       teakpool_kl_div_stats is refused, even when the path has left the window, because a zero count keeps its entry; only an
+ *       opening anew helps. So try each path by itself before it is added (teakpool_try_path below does it), report 14 with its node
+ *       as a finding, and do not add the path. Where a transition is rare but known, give it a count of 1 in the prior.
+ *   15  The tables end before a node's prior total plus its evidence total. Each occurrence of a node in the window is 1 of its
+ *       evidence total. So with T the greatest prior total, W the window and L the steps of the longest path, a table needs
+ *       T + W x L + 1 entries, index 0 included; T + W + 1 if no path meets a node twice. With a window of 0, and in a training, the
+ *       number of paths stands for W. The last index is at most 1,048,575, so keep prior totals well below that.
  */
 #ifndef TEAKPOOL_H
 #define TEAKPOOL_H
 
 #include <stddef.h>
 #include <stdint.h>
+
+/* The version of this header; teakpool_version() tells that of the archive. CHANGELOG.md says what counts as a break. */
+#define TEAKPOOL_VERSION_MAJOR 0u
+#define TEAKPOOL_VERSION_MINOR 1u
+#define TEAKPOOL_VERSION_PATCH 0u
+#define TEAKPOOL_VERSION_STRING "0.1.0"
+#define TEAKPOOL_VERSION (1000000u * TEAKPOOL_VERSION_MAJOR + 1000u * TEAKPOOL_VERSION_MINOR + TEAKPOOL_VERSION_PATCH)
+
+/* A call's answer is to be looked at, and none of its pointers is NULL. */
+#ifdef __GNUC__
+#define TEAKPOOL_CALL __attribute__((warn_unused_result, nonnull))
+#else
+#define TEAKPOOL_CALL
+#endif
 
 #ifdef __cplusplus
 extern "C" {
@@ -111,9 +142,13 @@ enum teakpool_refusal {
     TEAKPOOL_ONE_KNOT = 18        /* one knot and a length past it */
 };
 
-/* Tests tables.
+/* The version of the archive, as TEAKPOOL_VERSION has it. Where they differ, this header is another version's. */
+uint32_t teakpool_version(void);
+
+/* Tests tables. teakpool_tables.h fills tables with ln gamma and digamma.
  * Limits: g_length and d_length equal, 2 to 1,048,576; every entry from index 1 on within -2^40 to 2^40, both ends in, and no NaN.
  * Refused: 1 for the lengths, 2 for an entry. */
+TEAKPOOL_CALL
 uint32_t teakpool_check_tables(const double *g, size_t g_length, const double *d, size_t d_length);
 
 /* Tests prior records. Both slices may be empty.
@@ -126,12 +161,14 @@ uint32_t teakpool_check_tables(const double *g, size_t g_length, const double *d
  *   6  a node's chain not strictly ascending;
  *   7  a child count of 0; a node whose singleton count and chain's counts add up to 0.
  * Links and child counts are tested in every record, whether a node's chain reaches it or not. */
+TEAKPOOL_CALL
 uint32_t teakpool_check_priors(const uint8_t *nodes, size_t nodes_length, const uint8_t *children, size_t children_length);
 
 /* Opens a tracker. Book and queue are zeroed to their ends, whatever they held; state becomes window, 0, 0. A window of 0 keeps
  * every path counted. After p accepted paths of s steps in all, at most 2s - p entries of the book are used.
  * Limits: window 0 to 1,024; book_length a multiple of 24, 24 to 393,216; queue_length at least 516 x window.
  * Refused: 8 for the window; 9 for book_length or queue_length. The state before a refused opening stands. */
+TEAKPOOL_CALL
 uint32_t teakpool_open(uint32_t window, uint8_t *book, size_t book_length, uint8_t *queue, size_t queue_length, uint32_t state[3]);
 
 /* Adds a path and takes the oldest past the window away. Each neighbouring pair of steps adds 1 to that child under that node, the
@@ -139,6 +176,7 @@ uint32_t teakpool_open(uint32_t window, uint8_t *book, size_t book_length, uint8
  * Limits: path_length a multiple of 8, 8 to 512; at most 16,777,216 paths accepted after an opening.
  * Refused: 9 if the form is broken; 10 for path_length; 11 if 16,777,216 paths are accepted; 12 if the listed nodes and transitions,
  * those of the path included, would exceed the capacity. */
+TEAKPOOL_CALL
 uint32_t teakpool_add_path(uint32_t state[3], uint8_t *book, size_t book_length, uint8_t *queue, size_t queue_length,
                            const uint8_t *path, size_t path_length);
 
@@ -149,6 +187,7 @@ uint32_t teakpool_add_path(uint32_t state[3], uint8_t *book, size_t book_length,
  * children of both fill the places, ascending, zero counts included; places is their number, ending the ending's probability.
  * None if the node has no prior. One that is not listed has no evidence, and is answered by its prior.
  * Refused: 3 to 7 as in teakpool_check_priors; 9 if the form is broken; 13 if there are fewer places than children. */
+TEAKPOOL_CALL
 uint32_t teakpool_prob_vector(const uint32_t state[3], const uint8_t *book, size_t book_length, const uint8_t *queue,
                               size_t queue_length, const uint8_t *nodes, size_t nodes_length, const uint8_t *children,
                               size_t children_length, int32_t scale, uint32_t point, uint8_t *addresses, size_t addresses_length,
@@ -156,6 +195,7 @@ uint32_t teakpool_prob_vector(const uint32_t state[3], const uint8_t *book, size
 
 /* The same of the evidence alone. None if the node is not listed, or is listed and its total is 0.
  * Refused: 9 if the form is broken; 13 if there are fewer places than children. */
+TEAKPOOL_CALL
 uint32_t teakpool_evidence_prob_vector(const uint32_t state[3], const uint8_t *book, size_t book_length, const uint8_t *queue,
                                        size_t queue_length, int32_t scale, uint32_t point, uint8_t *addresses,
                                        size_t addresses_length, double *figures, size_t figures_length, uint32_t *places,
@@ -165,6 +205,7 @@ uint32_t teakpool_evidence_prob_vector(const uint32_t state[3], const uint8_t *b
  * Refused: 1 and 2 as in teakpool_check_tables; 3 to 7 as in teakpool_check_priors; 9 if the form is broken; 14 if a child listed
  * under the node, zero count included, is not in its prior; 15 if its prior total plus its evidence total exceeds g_length - 1.
  * These two are of the node asked for, so none is named. */
+TEAKPOOL_CALL
 uint32_t teakpool_posterior_kl_divergence(const uint32_t state[3], const uint8_t *book, size_t book_length, const uint8_t *queue,
                                           size_t queue_length, const uint8_t *nodes, size_t nodes_length,
                                           const uint8_t *children, size_t children_length, const double *g, size_t g_length,
@@ -175,6 +216,7 @@ uint32_t teakpool_posterior_kl_divergence(const uint32_t state[3], const uint8_t
  * Refused: 1 and 2 as in teakpool_check_tables; 3 to 7 as in teakpool_check_priors; 9 if the form is broken; 13 if there are fewer
  * places than listed nodes with a prior; then 14 and 15 as in teakpool_posterior_kl_divergence, by node ascending, with the node in
  * node_scale and node_point. */
+TEAKPOOL_CALL
 uint32_t teakpool_all_node_kl(const uint32_t state[3], const uint8_t *book, size_t book_length, const uint8_t *queue,
                               size_t queue_length, const uint8_t *nodes, size_t nodes_length, const uint8_t *children,
                               size_t children_length, const double *g, size_t g_length, const double *d, size_t d_length,
@@ -184,6 +226,7 @@ uint32_t teakpool_all_node_kl(const uint32_t state[3], const uint8_t *book, size
 /* The statistics of those divergences that lie strictly above 1.0e-10. figures is maximum, minimum, sum, sum of squares; counts is
  * their number, the sequence length, nodes skipped. With none above: -DBL_MAX, DBL_MAX, 0, 0 and number 0.
  * Refused: as in teakpool_all_node_kl, without 13. */
+TEAKPOOL_CALL
 uint32_t teakpool_kl_div_stats(const uint32_t state[3], const uint8_t *book, size_t book_length, const uint8_t *queue,
                                size_t queue_length, const uint8_t *nodes, size_t nodes_length, const uint8_t *children,
                                size_t children_length, const double *g, size_t g_length, const double *d, size_t d_length,
@@ -203,6 +246,7 @@ uint32_t teakpool_kl_div_stats(const uint32_t state[3], const uint8_t *book, siz
  * values_length.
  * Stopped in the work: for each path 10 for its length, then 12 if the book is too small for it, then, at a knot, 14 and 15 as in
  * teakpool_all_node_kl. Book, knots and values are then all zero to their ends, and count is as it was. */
+TEAKPOOL_CALL
 uint32_t teakpool_train(const double *g, size_t g_length, const double *d, size_t d_length, const uint8_t *nodes,
                         size_t nodes_length, const uint8_t *children, size_t children_length, const uint8_t *sequences,
                         size_t sequences_length, uint32_t s, uint32_t n, uint32_t rate, uint8_t *book, size_t book_length,
@@ -215,8 +259,391 @@ uint32_t teakpool_train(const double *g, size_t g_length, const double *d, size_
  * Limits: s 1 to 64, that of the training; at most 1,024 knots, strictly rising; values_length exactly 10 x knots_length. So both
  * slices are lent as long as the training's count says.
  * Refused: 17 for s, the knots or values_length; 18 if there is one knot and the length is past it. */
+TEAKPOOL_CALL
 uint32_t teakpool_stats(const uint32_t *knots, size_t knots_length, const double *values, size_t values_length, uint32_t s,
                         uint32_t length, double figures[10]);
+
+/* ---- The same calls over structs
+ *
+ * Each struct of things lent has a making function, teakpool_make_ and its name. Make every such struct by it: a field that a later
+ * version adds then has its right value, and NULL with a length of 0 becomes an address that the plain functions take. NULL with
+ * another length is not allowed. A struct only points at what is lent, which has to live as long as the struct is used. */
+
+/* An address that is not NULL, for a slice of length 0. */
+static inline void *teakpool_nowhere(void)
+{
+    static double nowhere;
+    return &nowhere;
+}
+
+/* A slice that is lent: where it begins, and its length in elements. Each has a type of its own, so that one in another's place does
+ * not compile. */
+#define TEAKPOOL_SLICE(name, element)                                                 \
+    struct teakpool_##name {                                                          \
+        element *at;                                                                  \
+        size_t length;                                                                \
+    };                                                                                \
+    static inline struct teakpool_##name teakpool_make_##name(element *at, size_t length) \
+    {                                                                                 \
+        struct teakpool_##name slice;                                                 \
+        slice.at = at != NULL ? at : (element *)teakpool_nowhere();                   \
+        slice.length = length;                                                        \
+        return slice;                                                                 \
+    }
+
+TEAKPOOL_SLICE(g, const double)         /* ln gamma */
+TEAKPOOL_SLICE(d, const double)         /* digamma */
+TEAKPOOL_SLICE(nodes, const uint8_t)    /* node records */
+TEAKPOOL_SLICE(children, const uint8_t) /* child records */
+TEAKPOOL_SLICE(book, uint8_t)
+TEAKPOOL_SLICE(queue, uint8_t)
+TEAKPOOL_SLICE(path, const uint8_t) /* a path's steps */
+#undef TEAKPOOL_SLICE
+
+/* The tables of ln gamma and digamma. */
+struct teakpool_tables {
+    struct teakpool_g g;
+    struct teakpool_d d;
+};
+
+static inline struct teakpool_tables teakpool_make_tables(struct teakpool_g g, struct teakpool_d d)
+{
+    struct teakpool_tables tables;
+    tables.g = g;
+    tables.d = d;
+    return tables;
+}
+
+/* The priors: node records and child records. */
+struct teakpool_priors {
+    struct teakpool_nodes nodes;
+    struct teakpool_children children;
+};
+
+static inline struct teakpool_priors teakpool_make_priors(struct teakpool_nodes nodes, struct teakpool_children children)
+{
+    struct teakpool_priors priors;
+    priors.nodes = nodes;
+    priors.children = children;
+    return priors;
+}
+
+/* A tracker: its state and the book and queue that it works in. The state is window, entries used, paths accepted. As it is made, a
+ * tracker is not open: every call on it but an opening gives 9. To go on with one that was saved, put its three numbers into state.
+ * A copy of this struct works in the same book and queue, so that only one of the two may go on. */
+struct teakpool_tracker {
+    uint32_t state[3];
+    struct teakpool_book book;
+    struct teakpool_queue queue;
+};
+
+static inline struct teakpool_tracker teakpool_make_tracker(struct teakpool_book book, struct teakpool_queue queue)
+{
+    struct teakpool_tracker tracker;
+    tracker.state[0] = UINT32_MAX;
+    tracker.state[1] = 0;
+    tracker.state[2] = 0;
+    tracker.book = book;
+    tracker.queue = queue;
+    return tracker;
+}
+
+/* The output of a reading: 8 bytes of addresses and one of figures for each of `places` places. */
+struct teakpool_output {
+    uint8_t *addresses;
+    double *figures;
+    size_t places;
+};
+
+static inline struct teakpool_output teakpool_make_output(uint8_t *addresses, double *figures, size_t places)
+{
+    struct teakpool_output output;
+    output.addresses = addresses != NULL ? addresses : (uint8_t *)teakpool_nowhere();
+    output.figures = figures != NULL ? figures : (double *)teakpool_nowhere();
+    output.places = places;
+    return output;
+}
+
+/* A node's address. */
+struct teakpool_address {
+    int32_t scale;
+    uint32_t point;
+};
+
+static inline struct teakpool_address teakpool_make_address(int32_t scale, uint32_t point)
+{
+    struct teakpool_address address;
+    address.scale = scale;
+    address.point = point;
+    return address;
+}
+
+/* A training's sequences: s sequences of n paths, 516 bytes a path, and a knot at every rate-th path. */
+struct teakpool_sequences {
+    const uint8_t *at;
+    size_t length;
+    uint32_t s, n, rate;
+};
+
+static inline struct teakpool_sequences teakpool_make_sequences(const uint8_t *at, size_t length, uint32_t s, uint32_t n,
+                                                                uint32_t rate)
+{
+    struct teakpool_sequences sequences;
+    sequences.at = at != NULL ? at : (const uint8_t *)teakpool_nowhere();
+    sequences.length = length;
+    sequences.s = s;
+    sequences.n = n;
+    sequences.rate = rate;
+    return sequences;
+}
+
+/* A baseline: room for knots, with ten values for each, then what a training filled: `count` knots, of s sequences. As it is made,
+ * and after a training that was stopped, it is not trained, and teakpool_baseline_stats gives 17. */
+struct teakpool_baseline {
+    uint32_t *knots;
+    double *values;
+    size_t room;
+    uint32_t s, count;
+    struct teakpool_address node; /* named by 14 and 15 */
+};
+
+static inline struct teakpool_baseline teakpool_make_baseline(uint32_t *knots, double *values, size_t room)
+{
+    struct teakpool_baseline baseline;
+    baseline.knots = knots != NULL ? knots : (uint32_t *)teakpool_nowhere();
+    baseline.values = values != NULL ? values : (double *)teakpool_nowhere();
+    baseline.room = room;
+    baseline.s = 0;
+    baseline.count = 0;
+    baseline.node = teakpool_make_address(0, 0);
+    return baseline;
+}
+
+/* Answers. A call that is not carried out leaves them as they were, but 14 and 15 write the node. */
+
+/* Of a probability vector: places filled, and the ending's probability. */
+struct teakpool_vector {
+    uint32_t places;
+    double ending;
+};
+
+/* Of teakpool_all_node_kl: places filled, and nodes skipped because they have no prior. */
+struct teakpool_list {
+    uint32_t places, skipped;
+    struct teakpool_address node; /* named by 14 and 15 */
+};
+
+/* Of teakpool_kl_div_stats. */
+struct teakpool_statistics {
+    double maximum, minimum, sum, sum_of_squares;
+    uint64_t number, sequence_length, skipped;
+    struct teakpool_address node; /* named by 14 and 15 */
+};
+
+/* Of teakpool_stats: mean and variance of each of the five figures. */
+struct teakpool_mean_variance {
+    double mean, variance;
+};
+
+struct teakpool_usual {
+    struct teakpool_mean_variance maximum, minimum, number, sum, sum_of_squares;
+};
+
+TEAKPOOL_CALL
+static inline uint32_t teakpool_tables_check(struct teakpool_tables tables)
+{
+    return teakpool_check_tables(tables.g.at, tables.g.length, tables.d.at, tables.d.length);
+}
+
+TEAKPOOL_CALL
+static inline uint32_t teakpool_priors_check(struct teakpool_priors priors)
+{
+    return teakpool_check_priors(priors.nodes.at, priors.nodes.length, priors.children.at, priors.children.length);
+}
+
+TEAKPOOL_CALL
+static inline uint32_t teakpool_tracker_open(struct teakpool_tracker *tracker, uint32_t window)
+{
+    return teakpool_open(window, tracker->book.at, tracker->book.length, tracker->queue.at, tracker->queue.length, tracker->state);
+}
+
+TEAKPOOL_CALL
+static inline uint32_t teakpool_tracker_add_path(struct teakpool_tracker *tracker, struct teakpool_path path)
+{
+    return teakpool_add_path(tracker->state, tracker->book.at, tracker->book.length, tracker->queue.at, tracker->queue.length,
+                             path.at, path.length);
+}
+
+TEAKPOOL_CALL
+static inline uint32_t teakpool_tracker_prob_vector(const struct teakpool_tracker *tracker, struct teakpool_priors priors,
+                                                    struct teakpool_address node, struct teakpool_output output,
+                                                    struct teakpool_vector *vector)
+{
+    return teakpool_prob_vector(tracker->state, tracker->book.at, tracker->book.length, tracker->queue.at, tracker->queue.length,
+                                priors.nodes.at, priors.nodes.length, priors.children.at, priors.children.length, node.scale,
+                                node.point, output.addresses, TEAKPOOL_STEP_SIZE * output.places, output.figures, output.places,
+                                &vector->places, &vector->ending);
+}
+
+TEAKPOOL_CALL
+static inline uint32_t teakpool_tracker_evidence_prob_vector(const struct teakpool_tracker *tracker, struct teakpool_address node,
+                                                             struct teakpool_output output, struct teakpool_vector *vector)
+{
+    return teakpool_evidence_prob_vector(tracker->state, tracker->book.at, tracker->book.length, tracker->queue.at,
+                                         tracker->queue.length, node.scale, node.point, output.addresses,
+                                         TEAKPOOL_STEP_SIZE * output.places, output.figures, output.places, &vector->places,
+                                         &vector->ending);
+}
+
+TEAKPOOL_CALL
+static inline uint32_t teakpool_tracker_posterior_kl_divergence(const struct teakpool_tracker *tracker,
+                                                                struct teakpool_priors priors, struct teakpool_tables tables,
+                                                                struct teakpool_address node, double *value)
+{
+    return teakpool_posterior_kl_divergence(tracker->state, tracker->book.at, tracker->book.length, tracker->queue.at,
+                                            tracker->queue.length, priors.nodes.at, priors.nodes.length, priors.children.at,
+                                            priors.children.length, tables.g.at, tables.g.length, tables.d.at, tables.d.length,
+                                            node.scale, node.point, value);
+}
+
+TEAKPOOL_CALL
+static inline uint32_t teakpool_tracker_all_node_kl(const struct teakpool_tracker *tracker, struct teakpool_priors priors,
+                                                    struct teakpool_tables tables, struct teakpool_output output,
+                                                    struct teakpool_list *list)
+{
+    uint32_t counts[2];
+    uint32_t code = teakpool_all_node_kl(
+        tracker->state, tracker->book.at, tracker->book.length, tracker->queue.at, tracker->queue.length, priors.nodes.at,
+        priors.nodes.length, priors.children.at, priors.children.length, tables.g.at, tables.g.length, tables.d.at, tables.d.length,
+        output.addresses, TEAKPOOL_STEP_SIZE * output.places, output.figures, output.places, counts, &list->node.scale,
+        &list->node.point);
+    if (code == TEAKPOOL_DONE) {
+        list->places = counts[0];
+        list->skipped = counts[1];
+    }
+    return code;
+}
+
+TEAKPOOL_CALL
+static inline uint32_t teakpool_tracker_kl_div_stats(const struct teakpool_tracker *tracker, struct teakpool_priors priors,
+                                                     struct teakpool_tables tables, struct teakpool_statistics *statistics)
+{
+    double figures[4];
+    uint64_t counts[3];
+    uint32_t code = teakpool_kl_div_stats(tracker->state, tracker->book.at, tracker->book.length, tracker->queue.at,
+                                          tracker->queue.length, priors.nodes.at, priors.nodes.length, priors.children.at,
+                                          priors.children.length, tables.g.at, tables.g.length, tables.d.at, tables.d.length,
+                                          figures, counts, &statistics->node.scale, &statistics->node.point);
+    if (code == TEAKPOOL_DONE) {
+        statistics->maximum = figures[0];
+        statistics->minimum = figures[1];
+        statistics->sum = figures[2];
+        statistics->sum_of_squares = figures[3];
+        statistics->number = counts[0];
+        statistics->sequence_length = counts[1];
+        statistics->skipped = counts[2];
+    }
+    return code;
+}
+
+/* The entries that a book for teakpool_try_path needs: those of a path of 64 steps. */
+#define TEAKPOOL_PATH_ENTRIES 127u
+
+/* Tries a path by itself, in a book of TEAKPOOL_PATH_ENTRIES entries or more that is for this alone: returns what
+ * teakpool_kl_div_stats returns for a tracker that has this path and no other. 14 names a node of the path that goes on to a child
+ * which its prior does not have; 15 names one for which the tables are too short even with this path alone.
+ * Refused: as in teakpool_open, teakpool_add_path and teakpool_kl_div_stats, in this order. */
+TEAKPOOL_CALL
+static inline uint32_t teakpool_try_path(struct teakpool_priors priors, struct teakpool_tables tables, struct teakpool_path path,
+                                         struct teakpool_book book, struct teakpool_address *node)
+{
+    struct teakpool_tracker tracker = teakpool_make_tracker(book, teakpool_make_queue(NULL, 0));
+    struct teakpool_statistics statistics;
+    uint32_t code = teakpool_tracker_open(&tracker, 0);
+    if (code == TEAKPOOL_DONE) {
+        code = teakpool_tracker_add_path(&tracker, path);
+    }
+    if (code == TEAKPOOL_DONE) {
+        code = teakpool_tracker_kl_div_stats(&tracker, priors, tables, &statistics);
+    }
+    if (code == TEAKPOOL_MISSING_CHILD || code == TEAKPOOL_PAST_TABLE) {
+        *node = statistics.node;
+    }
+    return code;
+}
+
+/* teakpool_train into the baseline's room. The book is for the work alone. */
+TEAKPOOL_CALL
+static inline uint32_t teakpool_baseline_train(struct teakpool_baseline *baseline, struct teakpool_priors priors,
+                                               struct teakpool_tables tables, struct teakpool_sequences sequences,
+                                               struct teakpool_book book)
+{
+    uint32_t code = teakpool_train(tables.g.at, tables.g.length, tables.d.at, tables.d.length, priors.nodes.at, priors.nodes.length,
+                                   priors.children.at, priors.children.length, sequences.at, sequences.length, sequences.s,
+                                   sequences.n, sequences.rate, book.at, book.length, baseline->knots, baseline->room,
+                                   baseline->values, TEAKPOOL_KNOT_VALUES * baseline->room, &baseline->count, &baseline->node.scale,
+                                   &baseline->node.point);
+    if (code == TEAKPOOL_DONE) {
+        baseline->s = sequences.s;
+    } else if (code == TEAKPOOL_PATH_LENGTH || code == TEAKPOOL_BOOK_FULL || code == TEAKPOOL_MISSING_CHILD ||
+               code == TEAKPOOL_PAST_TABLE) {
+        baseline->s = 0;
+        baseline->count = 0;
+    }
+    return code;
+}
+
+TEAKPOOL_CALL
+static inline uint32_t teakpool_baseline_stats(const struct teakpool_baseline *baseline, uint32_t length,
+                                               struct teakpool_usual *usual)
+{
+    double figures[10];
+    struct teakpool_mean_variance *const parts[5] = {&usual->maximum, &usual->minimum, &usual->number, &usual->sum,
+                                                     &usual->sum_of_squares};
+    uint32_t code = teakpool_stats(baseline->knots, baseline->count, baseline->values, TEAKPOOL_KNOT_VALUES * baseline->count,
+                                   baseline->s, length, figures);
+    if (code == TEAKPOOL_DONE) {
+        for (int i = 0; i < 5; i++) {
+            parts[i]->mean = figures[2 * i];
+            parts[i]->variance = figures[2 * i + 1];
+        }
+    }
+    return code;
+}
+
+/* ---- Fields in bytes: a word, an address (8 bytes) and a prior record (16 bytes) */
+
+static inline void teakpool_put_word(uint8_t *at, uint32_t word)
+{
+    at[0] = (uint8_t)(word & 255u);
+    at[1] = (uint8_t)(word >> 8 & 255u);
+    at[2] = (uint8_t)(word >> 16 & 255u);
+    at[3] = (uint8_t)(word >> 24);
+}
+
+static inline uint32_t teakpool_word_at(const uint8_t *at)
+{
+    return (uint32_t)at[0] | (uint32_t)at[1] << 8 | (uint32_t)at[2] << 16 | (uint32_t)at[3] << 24;
+}
+
+static inline void teakpool_put_address(uint8_t *at, struct teakpool_address address)
+{
+    teakpool_put_word(at, (uint32_t)address.scale);
+    teakpool_put_word(at + 4, address.point);
+}
+
+static inline struct teakpool_address teakpool_address_at(const uint8_t *at)
+{
+    return teakpool_make_address((int32_t)teakpool_word_at(at), teakpool_word_at(at + 4));
+}
+
+/* A node record has the singleton count and the first link, a child record the count and the next link. */
+static inline void teakpool_put_record(uint8_t *at, struct teakpool_address address, uint32_t count, uint32_t link)
+{
+    teakpool_put_address(at, address);
+    teakpool_put_word(at + 8, count);
+    teakpool_put_word(at + 12, link);
+}
 
 #ifdef __cplusplus
 }

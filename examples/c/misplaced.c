@@ -1,0 +1,41 @@
+/* CASE 0 has everything in its place and compiles. In every other case one thing is misplaced, and the compiler must refuse it. */
+#include "teakpool.h"
+
+uint32_t misplaced(struct teakpool_tracker *tracker, struct teakpool_priors priors, struct teakpool_tables tables,
+                   struct teakpool_output output, struct teakpool_list *list);
+
+uint32_t misplaced(struct teakpool_tracker *tracker, struct teakpool_priors priors, struct teakpool_tables tables,
+                   struct teakpool_output output, struct teakpool_list *list)
+{
+#if CASE == 0
+    tables = teakpool_make_tables(tables.g, tables.d);
+    priors = teakpool_make_priors(priors.nodes, priors.children);
+    *tracker = teakpool_make_tracker(tracker->book, tracker->queue);
+    output = teakpool_make_output(output.addresses, output.figures, output.places);
+#elif CASE == 1 /* the two tables */
+    tables = teakpool_make_tables(tables.d, tables.g);
+#elif CASE == 2 /* node records and child records */
+    priors = teakpool_make_priors(priors.children, priors.nodes);
+#elif CASE == 3 /* book and queue */
+    *tracker = teakpool_make_tracker(tracker->queue, tracker->book);
+#elif CASE == 4 /* addresses and figures */
+    output = teakpool_make_output(output.figures, output.addresses, output.places);
+#elif CASE == 5 /* a table that is only read, as a book */
+    tracker->book = teakpool_make_book(tables.g.at, tables.g.length);
+#elif CASE == 6 /* records that are only read, as a book */
+    tracker->book = teakpool_make_book(priors.nodes.at, priors.nodes.length);
+#elif CASE == 7 /* priors and tables */
+    return teakpool_tracker_all_node_kl(tracker, tables, priors, output, list);
+#elif CASE == 8 /* an answer that nobody looks at */
+    teakpool_tracker_open(tracker, 1);
+#elif CASE == 9 /* the same of a plain function */
+    teakpool_open(1, tracker->book.at, tracker->book.length, tracker->queue.at, tracker->queue.length, tracker->state);
+#elif CASE == 10 /* NULL where a plain function wants a slice */
+    return teakpool_open(0, tracker->book.at, tracker->book.length, NULL, 0, tracker->state);
+#elif CASE == 11 /* NULL where an answer goes */
+    return teakpool_tracker_all_node_kl(tracker, priors, tables, output, NULL);
+#else
+#error "there is no such case"
+#endif
+    return teakpool_tracker_all_node_kl(tracker, priors, tables, output, list);
+}

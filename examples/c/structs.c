@@ -1,0 +1,232 @@
+/* The calls over structs: each answers what its plain function answers, NULL stands for a slice of length 0, and a tracker or a baseline
+ * is refused until it is opened or trained. Tables with G(k) = k * k and D(k) = 4k make every figure a whole number. */
+#include "teakpool.h"
+#include "bytes.h"
+
+#include <string.h>
+
+#define ENTRIES 8u
+#define LENGTH 16u
+
+static double g[LENGTH], d[LENGTH];
+static uint8_t nodes[TEAKPOOL_RECORD_SIZE], children[2 * TEAKPOOL_RECORD_SIZE];
+static uint8_t book_bytes[ENTRIES * TEAKPOOL_ENTRY_SIZE], queue_bytes[TEAKPOOL_PLACE_SIZE];
+static uint8_t path_bytes[2 * TEAKPOOL_STEP_SIZE];
+static uint8_t sequence_bytes[2 * TEAKPOOL_PLACE_SIZE];
+static uint8_t trial[TEAKPOOL_PATH_ENTRIES * TEAKPOOL_ENTRY_SIZE];
+
+static struct teakpool_tables tables;
+static struct teakpool_priors priors;
+static struct teakpool_tracker tracker;
+static struct teakpool_sequences sequences;
+static struct teakpool_address node;
+
+static struct teakpool_path path_to(uint32_t point)
+{
+    teakpool_put_address(path_bytes, node);
+    teakpool_put_address(path_bytes + TEAKPOOL_STEP_SIZE, teakpool_make_address(0, point));
+    return teakpool_make_path(path_bytes, sizeof path_bytes);
+}
+
+/* Tables up to index `last`, a prior of (1,7) with singleton 1, (0,7) with 2 and (0,9) with 3, and two sequences of one path. */
+static void lend(size_t last)
+{
+    for (uint32_t k = 0; k < LENGTH; k++) {
+        g[k] = (double)(k * k);
+        d[k] = (double)(4 * k);
+    }
+    node = teakpool_make_address(1, 7);
+    teakpool_put_record(nodes, node, 1, 1);
+    teakpool_put_record(children, teakpool_make_address(0, 7), 2, 2);
+    teakpool_put_record(children + TEAKPOOL_RECORD_SIZE, teakpool_make_address(0, 9), 3, 0);
+    teakpool_put_word(sequence_bytes, 2);
+    memcpy(sequence_bytes + 4, path_to(9).at, sizeof path_bytes);
+    teakpool_put_word(sequence_bytes + TEAKPOOL_PLACE_SIZE, 1);
+    memcpy(sequence_bytes + TEAKPOOL_PLACE_SIZE + 4, path_bytes, TEAKPOOL_STEP_SIZE);
+    tables = teakpool_make_tables(teakpool_make_g(g, last + 1), teakpool_make_d(d, last + 1));
+    priors = teakpool_make_priors(teakpool_make_nodes(nodes, sizeof nodes), teakpool_make_children(children, sizeof children));
+    sequences = teakpool_make_sequences(sequence_bytes, sizeof sequence_bytes, 2, 1, 1);
+}
+
+static void open_and_add(uint32_t point)
+{
+    tracker = teakpool_make_tracker(teakpool_make_book(book_bytes, sizeof book_bytes),
+                                    teakpool_make_queue(queue_bytes, sizeof queue_bytes));
+    expect(teakpool_tracker_add_path(&tracker, path_to(point)) == TEAKPOOL_FORM, "an add to a tracker that is not open");
+    expect(teakpool_tracker_open(&tracker, 1) == TEAKPOOL_DONE, "an opening");
+    expect(teakpool_tracker_add_path(&tracker, path_to(point)) == TEAKPOOL_DONE, "an add");
+    expect(tracker.state[0] == 1 && tracker.state[1] == 3 && tracker.state[2] == 1, "the state after an add");
+}
+
+static void checks(void)
+{
+    expect(teakpool_tables_check(tables) == TEAKPOOL_DONE, "tables keep their rules");
+    expect(teakpool_tables_check(teakpool_make_tables(teakpool_make_g(g, 3), teakpool_make_d(d, 2))) == TEAKPOOL_TABLE_LENGTHS,
+           "tables of two lengths");
+    expect(teakpool_priors_check(priors) == TEAKPOOL_DONE, "priors keep their rules");
+    expect(teakpool_priors_check(teakpool_make_priors(priors.nodes, teakpool_make_children(children, 15))) == TEAKPOOL_PRIOR_SIZES,
+           "a part of a child record");
+}
+
+static void vectors(void)
+{
+    uint8_t addresses[2 * TEAKPOOL_STEP_SIZE], plain_addresses[sizeof addresses];
+    double figures[2], plain_figures[2], plain_ending;
+    struct teakpool_output output = teakpool_make_output(addresses, figures, 2);
+    struct teakpool_vector vector;
+    uint32_t plain_places;
+    expect(teakpool_tracker_prob_vector(&tracker, priors, node, output, &vector) == TEAKPOOL_DONE, "the probabilities");
+    expect(teakpool_prob_vector(tracker.state, book_bytes, sizeof book_bytes, queue_bytes, sizeof queue_bytes, nodes, sizeof nodes,
+                                children, sizeof children, 1, 7, plain_addresses, sizeof plain_addresses, plain_figures, 2,
+                                &plain_places, &plain_ending) == TEAKPOOL_DONE,
+           "the same, plain");
+    expect(vector.places == 2 && vector.places == plain_places && vector.ending == plain_ending, "the vector");
+    expect(memcmp(addresses, plain_addresses, sizeof addresses) == 0 && memcmp(figures, plain_figures, sizeof figures) == 0,
+           "the vector's places");
+    expect(teakpool_tracker_evidence_prob_vector(&tracker, node, output, &vector) == TEAKPOOL_DONE, "the evidence");
+    expect(vector.places == 1 && vector.ending == 0.0 && figures[0] == 1.0, "all of it goes to (0,9)");
+    output.places = 0;
+    expect(teakpool_tracker_evidence_prob_vector(&tracker, node, output, &vector) == TEAKPOOL_OUTPUT_SHORT, "no place");
+    expect(teakpool_tracker_prob_vector(&tracker, priors, teakpool_make_address(0, 9), output, &vector) == TEAKPOOL_NONE, "no prior");
+    expect(vector.places == 1, "what is not carried out leaves the answer");
+}
+
+static void divergences(void)
+{
+    uint8_t addresses[TEAKPOOL_STEP_SIZE];
+    double figures[1], value = -1.0;
+    struct teakpool_list list = {9, 9, {-5, 5}};
+    struct teakpool_statistics now;
+    memset(&now, 0, sizeof now);
+    expect(teakpool_tracker_posterior_kl_divergence(&tracker, priors, tables, node, &value) == TEAKPOOL_DONE && value == 6.0,
+           "the divergence of (1,7)");
+    expect(teakpool_tracker_all_node_kl(&tracker, priors, tables, teakpool_make_output(addresses, figures, 1), &list) == TEAKPOOL_DONE,
+           "the divergences of all nodes");
+    expect(list.places == 1 && list.skipped == 1 && list.node.scale == -5 && list.node.point == 5, "one place, one skipped, none named");
+    expect(teakpool_address_at(addresses).scale == 1 && teakpool_address_at(addresses).point == 7 && figures[0] == 6.0, "the place");
+    expect(teakpool_tracker_kl_div_stats(&tracker, priors, tables, &now) == TEAKPOOL_DONE, "the statistics");
+    expect(now.maximum == 6.0 && now.minimum == 6.0 && now.sum == 6.0 && now.sum_of_squares == 36.0, "their figures");
+    expect(now.number == 1 && now.sequence_length == 1 && now.skipped == 1, "their counts");
+}
+
+/* What names a node leaves the rest of the answer. */
+static void named(uint32_t number, const char *what)
+{
+    uint8_t addresses[TEAKPOOL_STEP_SIZE];
+    double figures[1];
+    struct teakpool_list list = {9, 9, {-5, 5}};
+    struct teakpool_statistics now;
+    memset(&now, 0, sizeof now);
+    expect(teakpool_tracker_all_node_kl(&tracker, priors, tables, teakpool_make_output(addresses, figures, 1), &list) == number, what);
+    expect(list.node.scale == 1 && list.node.point == 7 && list.places == 9 && list.skipped == 9, "the node in a list");
+    expect(teakpool_tracker_kl_div_stats(&tracker, priors, tables, &now) == number, what);
+    expect(now.node.scale == 1 && now.node.point == 7 && now.maximum == 0.0 && now.skipped == 0, "the node in statistics");
+}
+
+static void tried(size_t entries, struct teakpool_path path, uint32_t number, int names, const char *what)
+{
+    struct teakpool_address at = {-5, 5};
+    memset(trial, 170, sizeof trial);
+    expect(teakpool_try_path(priors, tables, path, teakpool_make_book(trial, entries * TEAKPOOL_ENTRY_SIZE), &at) == number, what);
+    expect(names ? at.scale == 1 && at.point == 7 : at.scale == -5 && at.point == 5, what);
+}
+
+static void trials(void)
+{
+    uint8_t longest[TEAKPOOL_MAX_STEPS * TEAKPOOL_STEP_SIZE];
+    for (uint32_t i = 0; i < TEAKPOOL_MAX_STEPS; i++) {
+        teakpool_put_address(longest + i * TEAKPOOL_STEP_SIZE, teakpool_make_address(-1, i));
+    }
+    struct teakpool_path whole = teakpool_make_path(longest, sizeof longest);
+    tried(TEAKPOOL_PATH_ENTRIES, path_to(9), TEAKPOOL_DONE, 0, "a path that the prior knows");
+    tried(TEAKPOOL_PATH_ENTRIES, path_to(8), TEAKPOOL_MISSING_CHILD, 1, "a transition that it does not know");
+    tried(TEAKPOOL_PATH_ENTRIES, whole, TEAKPOOL_DONE, 0, "the longest path of nodes without a prior");
+    tried(TEAKPOOL_PATH_ENTRIES - 1, whole, TEAKPOOL_BOOK_FULL, 0, "a book too small for it");
+    tried(0, whole, TEAKPOOL_FORM, 0, "no book");
+    tried(TEAKPOOL_PATH_ENTRIES, teakpool_make_path(NULL, 0), TEAKPOOL_PATH_LENGTH, 0, "no path");
+    lend(6);
+    tried(TEAKPOOL_PATH_ENTRIES, path_to(9), TEAKPOOL_PAST_TABLE, 1, "tables too short for prior and path");
+    lend(LENGTH - 1);
+}
+
+static void baselines(void)
+{
+    uint8_t work[ENTRIES * TEAKPOOL_ENTRY_SIZE];
+    uint32_t knots[1] = {77};
+    double values[TEAKPOOL_KNOT_VALUES] = {0.0};
+    struct teakpool_book work_book = teakpool_make_book(work, sizeof work);
+    struct teakpool_baseline baseline = teakpool_make_baseline(knots, values, 1);
+    struct teakpool_usual usual;
+    expect(teakpool_baseline_stats(&baseline, 1, &usual) == TEAKPOOL_BASELINE_INPUT, "a baseline that is not trained");
+    expect(teakpool_baseline_train(&baseline, priors, tables, sequences, work_book) == TEAKPOOL_DONE, "a training");
+    expect(baseline.s == 2 && baseline.count == 1 && knots[0] == 1, "one knot of two sequences");
+    expect(teakpool_baseline_stats(&baseline, 1, &usual) == TEAKPOOL_DONE, "at the knot");
+    expect(usual.maximum.mean == 8.0 && usual.maximum.variance == 4.0, "maxima 6 and 10");
+    expect(usual.minimum.mean == 8.0 && usual.number.mean == 1.0 && usual.number.variance == 0.0, "minimum and number");
+    expect(usual.sum.mean == 8.0 && usual.sum.variance == 4.0 && usual.sum_of_squares.mean == 68.0, "sums");
+    expect(teakpool_baseline_stats(&baseline, 2, &usual) == TEAKPOOL_ONE_KNOT && usual.maximum.mean == 8.0, "past the only knot");
+    sequences.rate = 0;
+    expect(teakpool_baseline_train(&baseline, priors, tables, sequences, work_book) == TEAKPOOL_TRAINING_INPUT, "a rate of 0");
+    expect(baseline.s == 2 && baseline.count == 1, "a training that is refused before its work leaves the baseline");
+    lend(6);
+    expect(teakpool_baseline_train(&baseline, priors, tables, sequences, work_book) == TEAKPOOL_PAST_TABLE, "tables that end at 6");
+    expect(baseline.node.scale == 1 && baseline.node.point == 7, "the node in a baseline");
+    expect(teakpool_baseline_stats(&baseline, 0, &usual) == TEAKPOOL_BASELINE_INPUT, "a training that was stopped");
+    lend(LENGTH - 1);
+}
+
+/* NULL for every slice that may be empty. */
+static void nothing_lent(void)
+{
+    struct teakpool_priors no_priors = teakpool_make_priors(teakpool_make_nodes(NULL, 0), teakpool_make_children(NULL, 0));
+    struct teakpool_output no_output = teakpool_make_output(NULL, NULL, 0);
+    struct teakpool_baseline baseline = teakpool_make_baseline(NULL, NULL, 0);
+    struct teakpool_list list = {9, 9, {0, 0}};
+    struct teakpool_usual usual;
+    expect(teakpool_priors_check(no_priors) == TEAKPOOL_DONE, "no priors");
+    expect(teakpool_tables_check(teakpool_make_tables(teakpool_make_g(NULL, 0), teakpool_make_d(NULL, 0))) == TEAKPOOL_TABLE_LENGTHS,
+           "no tables");
+    tracker = teakpool_make_tracker(teakpool_make_book(NULL, 0), teakpool_make_queue(NULL, 0));
+    expect(teakpool_tracker_open(&tracker, 0) == TEAKPOOL_FORM, "no book");
+    tracker = teakpool_make_tracker(teakpool_make_book(book_bytes, sizeof book_bytes), teakpool_make_queue(NULL, 0));
+    expect(teakpool_tracker_open(&tracker, 0) == TEAKPOOL_DONE, "no queue");
+    expect(teakpool_tracker_add_path(&tracker, teakpool_make_path(NULL, 0)) == TEAKPOOL_PATH_LENGTH, "no path");
+    expect(teakpool_tracker_add_path(&tracker, path_to(9)) == TEAKPOOL_DONE, "an add without a queue");
+    expect(teakpool_tracker_all_node_kl(&tracker, no_priors, tables, no_output, &list) == TEAKPOOL_DONE, "no output");
+    expect(list.places == 0 && list.skipped == 2, "every node is skipped");
+    sequences = teakpool_make_sequences(NULL, 0, 1, 0, 1);
+    expect(teakpool_baseline_train(&baseline, no_priors, tables, sequences, tracker.book) == TEAKPOOL_DONE, "a training on no paths");
+    expect(teakpool_baseline_stats(&baseline, 7, &usual) == TEAKPOOL_DONE && usual.sum.mean == 0.0, "a baseline without knots");
+    lend(LENGTH - 1);
+}
+
+static void fields(void)
+{
+    uint8_t bytes[TEAKPOOL_RECORD_SIZE];
+    static const uint8_t expected[TEAKPOOL_RECORD_SIZE] = {254, 255, 255, 255, 4, 3, 2, 1, 8, 7, 6, 5, 12, 11, 10, 9};
+    teakpool_put_record(bytes, teakpool_make_address(-2, 0x01020304u), 0x05060708u, 0x090a0b0cu);
+    expect(memcmp(bytes, expected, sizeof bytes) == 0, "a record's bytes");
+    expect(teakpool_address_at(bytes).scale == -2 && teakpool_address_at(bytes).point == 0x01020304u, "an address from its bytes");
+}
+
+int main(void)
+{
+    fields();
+    lend(LENGTH - 1);
+    checks();
+    open_and_add(9);
+    vectors();
+    divergences();
+    lend(6);
+    named(TEAKPOOL_PAST_TABLE, "tables that end at 6");
+    lend(LENGTH - 1);
+    open_and_add(8);
+    named(TEAKPOOL_MISSING_CHILD, "a child that the prior does not have");
+    trials();
+    baselines();
+    nothing_lent();
+    if (failures == 0) {
+        printf("structs: every call answers as its plain function\n");
+    }
+    return failures == 0 ? 0 : 1;
+}
