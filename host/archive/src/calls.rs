@@ -2,6 +2,12 @@
 
 use crate::{raw, Named, Node, Output, Priors, Sequences, Tables, Tracker, Trained, Vector};
 
+/// The archive's version: major times 1,000,000, minor times 1,000 and patch.
+pub fn version() -> u32 {
+    // SAFETY: it is lent nothing.
+    unsafe { raw::teakpool_version() }
+}
+
 /// Refusals 1 and 2 of two tables.
 pub fn check_tables((g, d): Tables) -> u32 {
     // SAFETY: references promise what `raw` asks, as the crate says.

@@ -6,6 +6,8 @@
 //! also where the slice is empty; a slice's length is true; what is lent to be written overlaps
 //! nothing else, and nobody else reads or writes it until the call returns.
 
+#![no_std]
+
 // Laid out by hand: a line for each thing lent.
 #[rustfmt::skip]
 mod calls;

@@ -14,6 +14,12 @@
 pub const NONE: u32 = 100;
 
 extern "C" {
+    /// The archive's version: major times 1,000,000, minor times 1,000 and patch.
+    ///
+    /// # Safety
+    /// Nothing is asked.
+    pub fn teakpool_version() -> u32;
+
     /// Refusals 1 and 2 of two tables.
     ///
     /// # Safety

@@ -69,7 +69,7 @@ fn adds(load: &mut Load, mut ours: impl FnMut(&[u8]), theirs: &mut Goko) -> (f64
 
 fn tested_adds(load: &mut Load, ours: &mut Tracker, theirs: &mut Goko, rounds: usize) {
     row("add_path, with its form test", rounds, || {
-        adds(load, |path| ours.add_path(path).expect("there is room"), theirs)
+        adds(load, |path| ours.add_path_bytes(path).expect("there is room"), theirs)
     });
     agree::counts(ours.state().used as usize, ours.book(), theirs);
 }
@@ -85,7 +85,7 @@ fn formed_adds(name: &str, capacity: usize, load: &mut Load, rounds: usize) {
 /// The readings of one node.
 fn one_node(load: &mut Load, ours: &Tracker, theirs: &Goko, rounds: usize) {
     let nodes: Vec<Address> = (0..READINGS).map(|_| load.node()).collect();
-    let (priors, tables) = (load.records.lent(), Tables { g: &load.tables.g, d: &load.tables.d });
+    let (priors, tables) = (load.records.lent(), Tables::new(&load.tables.g, &load.tables.d));
     let (mut addresses, mut figures) = ([0; 8 * 64], [0.0; 64]);
     let mut output = Output { addresses: &mut addresses, figures: &mut figures };
     for node in &nodes {
@@ -121,7 +121,7 @@ fn one_node(load: &mut Load, ours: &Tracker, theirs: &Goko, rounds: usize) {
 
 /// The readings over all nodes.
 fn all_nodes(load: &Load, ours: &Tracker, theirs: &Goko, rounds: usize) {
-    let (priors, tables) = (load.records.lent(), Tables { g: &load.tables.g, d: &load.tables.d });
+    let (priors, tables) = (load.records.lent(), Tables::new(&load.tables.g, &load.tables.d));
     let (mut addresses, mut figures) = (vec![0; 8 * NODES], vec![0.0; NODES]);
     let mut output = Output { addresses: &mut addresses, figures: &mut figures };
     let listed = ours.all_node_kl(tables, priors, &mut output).expect("it is answered");
@@ -161,7 +161,7 @@ fn trainings(load: &mut Load, rounds: usize) {
     for (name, rate) in [("train, a path, a knot every 64", 64), ("train, a path, one knot a sequence", n)] {
         row(name, rounds, || {
             let sequences = Sequences { s: s as u32, n: n as u32, rate: rate as u32, places: &places };
-            let tables = Tables { g: &load.tables.g, d: &load.tables.d };
+            let tables = Tables::new(&load.tables.g, &load.tables.d);
             let mut trained = Vec::new();
             let one = timed(s * n, || {
                 let baseline = Baseline::train(

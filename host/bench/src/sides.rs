@@ -3,7 +3,7 @@
 
 use crate::load::{Load, CHILDREN, NODES};
 use oracle::{Goko, NodeAddress};
-use teakpool::{path_bytes, Address, State, Tracker, ENTRY_BYTES, PLACE_BYTES};
+use teakpool::{Address, State, Tracker, ENTRY_BYTES, PLACE_BYTES};
 
 /// The window of both.
 pub const WINDOW: u32 = 1_024;
@@ -50,7 +50,7 @@ pub fn filled(load: &mut Load, capacity: usize) -> (Memory, State, Goko) {
     theirs.lend_priors(&goko_priors(load));
     oracle::lend_tables(&load.tables.g, &load.tables.d);
     let mut add = |path: Vec<Address>| {
-        ours.add_path(&path_bytes(&path)).expect("the book has room");
+        ours.add_path(&path).expect("the book has room");
         theirs.add_path(&goko_path(&path)).expect("goko takes it");
     };
     load.all_transitions().into_iter().for_each(&mut add);

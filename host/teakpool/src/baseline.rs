@@ -47,15 +47,13 @@ pub struct BaselineStats {
 
 /// A baseline in lent memory.
 ///
-/// Two sequences whose maxima are 6 and 10 at their one knot:
+/// Two sequences of one path each:
 ///
 /// ```
 /// use teakpool::*;
 ///
 /// # fn main() -> Result<(), Refusal> {
-/// let (g, d): (Vec<f64>, Vec<f64>) =
-///     (0..8).map(|k| (f64::from(k * k), f64::from(4 * k))).unzip();
-/// let tables = Tables { g: &g, d: &d };
+/// let tables = gamma_tables(7);
 /// let mut records = PriorRecords::default();
 /// let (node, child) = (Address::new(1, 7), Address::new(0, 9));
 /// records.node(node, 1, &[(Address::new(0, 7), 2), (child, 3)]);
@@ -63,10 +61,14 @@ pub struct BaselineStats {
 /// let places = [place_bytes(&[node, child]), place_bytes(&[node])].concat();
 /// let sequences = Sequences { s: 2, n: 1, rate: 1, places: &places };
 /// let (mut book, mut knots, mut values) = ([0; 72], [0; 1], [0.0; 10]);
-/// let baseline =
-///     Baseline::train(tables, records.lent(), sequences, &mut book, &mut knots, &mut values)?;
+/// let baseline = Baseline::train(
+///     tables.lent(), records.lent(), sequences, &mut book, &mut knots, &mut values,
+/// )?;
 /// assert_eq!(baseline.knots, [1]);
-/// assert_eq!(baseline.stats(1)?.maximum, MeanVariance { mean: 8.0, variance: 4.0 });
+///
+/// // The two maxima, by hand.
+/// let (one, other) = (47.0 / 60.0 - 2.0_f64.ln(), 137.0 / 60.0 - 6.0_f64.ln());
+/// assert!((baseline.stats(1)?.maximum.mean - (one + other) / 2.0).abs() < 1.0e-14);
 /// assert_eq!(baseline.stats(2), Err(Refusal::OneKnot));
 /// # Ok(())
 /// # }
@@ -82,8 +84,13 @@ pub struct Baseline<'a> {
 }
 
 impl<'a> Baseline<'a> {
-    /// Trains: 1 to 7, 9, 16, 13, and 10, 12, 14 or 15 where a sequence meets one. `book` is for
-    /// the work alone and is zero afterwards; a stop zeroes `knots` and `values` too.
+    /// Trains. `book` is for the work alone and is zero afterwards.
+    ///
+    /// # Errors
+    /// Before the work, and nothing changes: 1 and 2 for the tables, 3 to 7 for the priors, 9 for the
+    /// book's length, 16 for the sequences, 13 where `knots` or `values` are too short. In the work, and
+    /// `book`, `knots` and `values` become zero: 10 for a path's length, 12 where the book is too small,
+    /// and at a knot 14 and 15 as in `all_node_kl`.
     pub fn train(
         tables: Tables,
         priors: Priors,
@@ -106,8 +113,12 @@ impl<'a> Baseline<'a> {
         Ok(Baseline { s: sequences.s, knots: &knots[..count], values: &values[..KNOT_VALUES * count] })
     }
 
-    /// Means and variances at a length: 17, 18. At a knot its own, between knots and past the
-    /// last interpolated, below the first or without knots all zeros.
+    /// Means and variances at a length: at a knot its own, between knots and past the last on a
+    /// straight line, below the first or without knots all zeros.
+    ///
+    /// # Errors
+    /// 17 for s, the knots or the number of values, 18 where there is one knot and the length is past
+    /// it.
     pub fn stats(&self, length: u32) -> Result<BaselineStats, Refusal> {
         let mut figures = [0.0; KNOT_VALUES];
         let answer = archive::stats(self.knots, self.values, self.s, length, &mut figures);
@@ -126,9 +137,19 @@ impl<'a> Baseline<'a> {
 
 /// A path as a queue place: its length, its steps, zeros. A path of more than 64 steps has no
 /// place; its length is written and the call that reads it gives 10.
-pub fn place_bytes(path: &[Address]) -> Vec<u8> {
-    let mut place = (path.len() as u32).to_le_bytes().to_vec();
-    place.extend(crate::path_bytes(path));
-    place.resize(PLACE_BYTES, 0);
+///
+/// ```
+/// use teakpool::{place_bytes, Address};
+///
+/// let place = place_bytes(&[Address::new(1, 7)]);
+/// assert_eq!(place[..12], [1, 0, 0, 0, 1, 0, 0, 0, 7, 0, 0, 0]);
+/// ```
+pub fn place_bytes(path: &[Address]) -> [u8; PLACE_BYTES] {
+    let mut place = [0; PLACE_BYTES];
+    let (length, steps) = place.split_at_mut(4);
+    length.copy_from_slice(&(path.len() as u32).to_le_bytes());
+    for (place, step) in steps.chunks_exact_mut(Address::BYTES).zip(path) {
+        place.copy_from_slice(&step.bytes());
+    }
     place
 }

@@ -9,11 +9,13 @@ use crate::{Address, Refusal};
 /// ```
 /// use teakpool::{Refusal, Tables};
 ///
-/// let (g, d) = ([0.0, 1.0, 4.0], [0.0, 4.0, 8.0]);
-/// assert_eq!(Tables { g: &g, d: &d }.check(), Ok(()));
-/// assert_eq!(Tables { g: &g, d: &d[..2] }.check(), Err(Refusal::TableLengths));
+/// let tables = teakpool::gamma_tables(40);
+/// assert_eq!(tables.lent().check(), Ok(()));
+/// let unequal = Tables::new(&tables.g, &tables.d[..40]);
+/// assert_eq!(unequal.check(), Err(Refusal::TableLengths));
 /// ```
 #[derive(Debug, Clone, Copy)]
+#[non_exhaustive]
 pub struct Tables<'a> {
     /// ln gamma.
     pub g: &'a [f64],
@@ -21,8 +23,16 @@ pub struct Tables<'a> {
     pub d: &'a [f64],
 }
 
-impl Tables<'_> {
-    /// Refusals 1 and 2.
+impl<'a> Tables<'a> {
+    /// The tables of ln gamma and of digamma.
+    pub const fn new(g: &'a [f64], d: &'a [f64]) -> Tables<'a> {
+        Tables { g, d }
+    }
+
+    /// Tests the tables.
+    ///
+    /// # Errors
+    /// 1 for their lengths, 2 for an entry.
     pub fn check(&self) -> Result<(), Refusal> {
         done(archive::check_tables((self.g, self.d)), Address::default())
     }
@@ -34,10 +44,11 @@ impl Tables<'_> {
 /// ```
 /// use teakpool::{Priors, Refusal};
 ///
-/// assert_eq!(Priors { nodes: &[], children: &[] }.check(), Ok(()));
-/// assert_eq!(Priors { nodes: &[0; 15], children: &[] }.check(), Err(Refusal::PriorSizes));
+/// assert_eq!(Priors::new(&[], &[]).check(), Ok(()));
+/// assert_eq!(Priors::new(&[0; 15], &[]).check(), Err(Refusal::PriorSizes));
 /// ```
 #[derive(Debug, Clone, Copy)]
+#[non_exhaustive]
 pub struct Priors<'a> {
     /// The node records.
     pub nodes: &'a [u8],
@@ -45,11 +56,40 @@ pub struct Priors<'a> {
     pub children: &'a [u8],
 }
 
-impl Priors<'_> {
-    /// Refusals 3 to 7.
+impl<'a> Priors<'a> {
+    /// The priors of these node records and child records.
+    pub const fn new(nodes: &'a [u8], children: &'a [u8]) -> Priors<'a> {
+        Priors { nodes, children }
+    }
+
+    /// Tests the records.
+    ///
+    /// # Errors
+    /// 3 to 7, each over all records before the next.
     pub fn check(&self) -> Result<(), Refusal> {
         done(archive::check_priors((self.nodes, self.children)), Address::default())
     }
+}
+
+/// Bytes of a node record and of a child record.
+pub const RECORD_BYTES: usize = 16;
+
+/// A record's bytes: of a node with its singleton count and first link, or of a child with its count
+/// and next link.
+///
+/// ```
+/// use teakpool::{record_bytes, Address, Priors};
+///
+/// let nodes = record_bytes(Address::new(1, 7), 1, 1);
+/// let children = record_bytes(Address::new(0, 9), 3, 0);
+/// assert_eq!(Priors::new(&nodes, &children).check(), Ok(()));
+/// ```
+pub fn record_bytes(address: Address, count: u32, link: u32) -> [u8; RECORD_BYTES] {
+    let mut record = [0; RECORD_BYTES];
+    record[..8].copy_from_slice(&address.bytes());
+    record[8..12].copy_from_slice(&count.to_le_bytes());
+    record[12..].copy_from_slice(&link.to_le_bytes());
+    record
 }
 
 /// Prior records as they are put together, node by node.
@@ -61,34 +101,30 @@ impl Priors<'_> {
 /// records.node(Address::new(1, 7), 1, &[(Address::new(0, 7), 2), (Address::new(0, 9), 3)]);
 /// assert_eq!(records.lent().check(), Ok(()));
 /// ```
+#[cfg(feature = "std")]
 #[derive(Debug, Clone, Default)]
 pub struct PriorRecords {
-    nodes: Vec<u8>,
-    children: Vec<u8>,
+    nodes: std::vec::Vec<u8>,
+    children: std::vec::Vec<u8>,
 }
 
+#[cfg(feature = "std")]
 impl PriorRecords {
     /// Adds a node with its singleton count and its children with their counts. Nodes and the
     /// children of one node are to come ascending; `check` tests it.
     pub fn node(&mut self, address: Address, singleton: u32, children: &[(Address, u32)]) {
-        let first = (self.children.len() / 16) as u32 + 1;
+        let first = (self.children.len() / RECORD_BYTES) as u32 + 1;
         let link = if children.is_empty() { 0 } else { first };
-        record(&mut self.nodes, address, singleton, link);
+        self.nodes.extend(record_bytes(address, singleton, link));
         for (index, (child, count)) in children.iter().enumerate() {
             let own = first + index as u32;
             let next = if index + 1 < children.len() { own + 1 } else { 0 };
-            record(&mut self.children, *child, *count, next);
+            self.children.extend(record_bytes(*child, *count, next));
         }
     }
 
     /// The records as lent.
     pub fn lent(&self) -> Priors<'_> {
-        Priors { nodes: &self.nodes, children: &self.children }
+        Priors::new(&self.nodes, &self.children)
     }
-}
-
-fn record(bytes: &mut Vec<u8>, address: Address, count: u32, link: u32) {
-    bytes.extend(address.bytes());
-    bytes.extend(count.to_le_bytes());
-    bytes.extend(link.to_le_bytes());
 }

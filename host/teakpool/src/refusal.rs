@@ -1,10 +1,11 @@
-//! The refusals: one variant for each number of document 01's table, in its words.
+//! The refusals: one variant for each number of the table in docs/RULES.md, in its words.
 
 use crate::Address;
-use std::error::Error;
-use std::fmt;
+use core::error::Error;
+use core::fmt;
 
-/// Why a call is turned back. `number` gives the number of the table, `Display` its wording.
+/// Why a call is turned back. `number` gives the number of the table, `Display` its wording;
+/// docs/RULES.md says what to do about each. Later versions may have more.
 ///
 /// ```
 /// use teakpool::{Address, Refusal};
@@ -15,6 +16,7 @@ use std::fmt;
 /// assert_eq!(past.to_string(), "refusal 15: U past the last table index, at node 1/7");
 /// ```
 #[derive(Debug, Clone, Copy, PartialEq, Eq)]
+#[non_exhaustive]
 pub enum Refusal {
     /// 1: lengths unequal, under 2 or over 1,048,576.
     TableLengths,
@@ -44,8 +46,18 @@ pub enum Refusal {
     /// 13: output holds fewer places than the answer.
     OutputShort,
     /// 14: evidence child, zero count included, not in the prior; with the node.
+    ///
+    /// A transition that the prior has never seen is the strongest drift there is. Once it is in the
+    /// book, every later `all_node_kl` and `kl_div_stats` is refused until the tracker is opened anew.
+    /// So try a path with [`try_path`](crate::try_path) before it is added, report this as a finding,
+    /// and do not add the path.
     MissingChild(Address),
     /// 15: U past the last table index; with the node.
+    ///
+    /// U is the node's prior total plus its evidence total, and each occurrence of the node in the
+    /// window is 1 of the evidence. With T the greatest prior total, W the window and L the steps of
+    /// the longest path, `gamma_tables(T + W * L)` always reaches; T + W is enough if no path meets a
+    /// node twice. With a window of 0, and in a training, the number of paths stands for W.
     PastTable(Address),
     /// 16: rate 0; s, n or byte count wrong; over 1,024 knots.
     TrainingInput,
@@ -53,10 +65,12 @@ pub enum Refusal {
     BaselineInput,
     /// 18: one knot and a length past it.
     OneKnot,
+    /// A number that this version of the crate does not know: the archive is of another version.
+    Other(u32),
 }
 
 impl Refusal {
-    /// The number, 1 to 18.
+    /// The number of the table.
     pub fn number(self) -> u32 {
         match self {
             Refusal::TableLengths => 1,
@@ -77,6 +91,7 @@ impl Refusal {
             Refusal::TrainingInput => 16,
             Refusal::BaselineInput => 17,
             Refusal::OneKnot => 18,
+            Refusal::Other(number) => number,
         }
     }
 
@@ -112,13 +127,11 @@ impl Refusal {
             Refusal::TrainingInput => "rate 0; s, n or byte count wrong; over 1,024 knots",
             Refusal::BaselineInput => "s not 1 to 64; knots not rising or over 1,024; values not ten a knot",
             Refusal::OneKnot => "one knot and a length past it",
+            Refusal::Other(_) => "not known to this version of the crate",
         }
     }
 
     /// The refusal with this number; `node` is what 14 and 15 name.
-    ///
-    /// # Panics
-    /// The archive is of another version if it answers with a number outside the table.
     pub(crate) fn of(number: u32, node: Address) -> Refusal {
         match number {
             1 => Refusal::TableLengths,
@@ -139,7 +152,7 @@ impl Refusal {
             16 => Refusal::TrainingInput,
             17 => Refusal::BaselineInput,
             18 => Refusal::OneKnot,
-            other => panic!("the archive answered {}, which is no number of the table", other),
+            other => Refusal::Other(other),
         }
     }
 }
@@ -168,9 +181,10 @@ pub(crate) fn done(answer: u32, node: Address) -> Result<(), Refusal> {
 mod tests {
     use super::Refusal;
     use crate::Address;
-    use std::panic::catch_unwind;
+    use std::format;
+    use std::string::ToString;
 
-    /// The last column of document 01's table, from 1 to 18.
+    /// The last column of the rules' table, from 1 to 18.
     const TABLE: [&str; 18] = [
         "lengths unequal, under 2 or over 1,048,576",
         "an entry from index 1 on not within -2^40 to 2^40",
@@ -185,7 +199,7 @@ mod tests {
         "16,777,216 paths accepted",
         "listed nodes plus transitions would exceed capacity",
         "output holds fewer places than the answer",
-        "evidence child, zero count included, not in the prior (goko panics)",
+        "evidence child, zero count included, not in the prior",
         "U past the last table index",
         "rate 0; s, n or byte count wrong; over 1,024 knots",
         "s not 1 to 64; knots not rising or over 1,024; values not ten a knot",
@@ -198,8 +212,6 @@ mod tests {
         for (number, when) in (1..).zip(TABLE) {
             let refusal = Refusal::of(number, node);
             assert_eq!(refusal.number(), number);
-            // What goko does is no part of a refusal.
-            let when = when.trim_end_matches(" (goko panics)");
             assert_eq!(refusal.wording(), when, "{}", number);
             let (named, end) = match number {
                 14 | 15 => (Some(node), ", at node -1/7"),
@@ -211,9 +223,12 @@ mod tests {
     }
 
     #[test]
-    fn no_other_number_is_a_refusal() {
-        for number in [0, 19, 100] {
-            assert!(catch_unwind(|| Refusal::of(number, Address::default())).is_err(), "{}", number);
+    fn an_unknown_number_is_kept() {
+        for number in [19, 29, 100, u32::MAX] {
+            let refusal = Refusal::of(number, Address::default());
+            assert_eq!((refusal, refusal.number(), refusal.node()), (Refusal::Other(number), number, None));
         }
+        let text = "refusal 19: not known to this version of the crate";
+        assert_eq!(Refusal::Other(19).to_string(), text);
     }
 }

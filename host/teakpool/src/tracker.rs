@@ -1,7 +1,8 @@
 //! A tracker: its state, and the book and queue that it is lent. The readings change nothing.
 
+use crate::address::PathBytes;
 use crate::refusal::done;
-use crate::{Address, Priors, Refusal, Tables};
+use crate::{Address, Priors, Refusal, Tables, MAX_STEPS};
 
 /// Bytes of a book entry.
 pub const ENTRY_BYTES: usize = 24;
@@ -32,30 +33,30 @@ impl State {
 /// A tracker over a lent book (24 bytes an entry) and queue (516 bytes a place, as many as the
 /// window has paths). While it lives nobody else can write there.
 ///
-/// The first of document 01's check rows:
-///
 /// ```
 /// use teakpool::*;
 ///
 /// # fn main() -> Result<(), Refusal> {
-/// let g: Vec<f64> = (0..8).map(|k| f64::from(k * k)).collect();
-/// let d: Vec<f64> = (0..8).map(|k| f64::from(4 * k)).collect();
-/// let tables = Tables { g: &g, d: &d };
+/// let tables = gamma_tables(7);
+/// let (node, nine) = (Address::new(1, 7), Address::new(0, 9));
 /// let mut records = PriorRecords::default();
-/// records.node(Address::new(1, 7), 1, &[(Address::new(0, 7), 2), (Address::new(0, 9), 3)]);
-/// let priors = records.lent();
+/// records.node(node, 1, &[(Address::new(0, 7), 2), (nine, 3)]);
+/// let (tables, priors) = (tables.lent(), records.lent());
 ///
 /// let (mut book, mut queue) = ([0xff; 3 * ENTRY_BYTES], [0xff; PLACE_BYTES]);
 /// let mut tracker = Tracker::open(1, &mut book, &mut queue)?;
-/// tracker.add_path(&path_bytes(&[Address::new(1, 7), Address::new(0, 9)]))?;
+/// tracker.add_path(&[node, nine])?;
+/// assert_eq!(tracker.state(), State { window: 1, used: 3, accepted: 1 });
 ///
-/// let node = Address::new(1, 7);
-/// assert_eq!(tracker.posterior_kl_divergence(tables, priors, node)?, Some(6.0));
+/// // By hand, D(6) - D(3) + ln (5! 3! / (2! 6!)).
 /// let stats = tracker.kl_div_stats(tables, priors)?;
-/// assert_eq!((stats.sum, stats.sum_of_squares, stats.skipped), (6.0, 36.0, 1));
+/// assert!((stats.sum - (47.0 / 60.0 - 2.0_f64.ln())).abs() < 1.0e-14);
 ///
-/// tracker.add_path(&path_bytes(&[node]))?;
-/// assert_eq!(tracker.posterior_kl_divergence(tables, priors, node)?, Some(10.0));
+/// // The window is 1, so this path takes the place of the first. 0/9 keeps its entry.
+/// tracker.add_path(&[node])?;
+/// let divergence = tracker.posterior_kl_divergence(tables, priors, node)?;
+/// assert!((divergence.unwrap() - (137.0 / 60.0 - 6.0_f64.ln())).abs() < 1.0e-14);
+/// assert_eq!(tracker.state(), State { window: 1, used: 3, accepted: 2 });
 /// # Ok(())
 /// # }
 /// ```
@@ -122,7 +123,11 @@ pub struct KLDivergenceStats {
 }
 
 impl<'m> Tracker<'m> {
-    /// Opens a tracker: 8, then 9; else book and queue become zero.
+    /// Opens a tracker: book and queue become zero. The window is the number of paths that count, 0
+    /// for all of them.
+    ///
+    /// # Errors
+    /// 8 for a window over 1,024, 9 for the length of book or queue.
     ///
     /// ```
     /// use teakpool::{Refusal, Tracker};
@@ -142,13 +147,13 @@ impl<'m> Tracker<'m> {
     /// form and refuses with 9 where it is broken.
     ///
     /// ```
-    /// use teakpool::{path_bytes, Address, Refusal, Tracker};
+    /// use teakpool::{Address, Refusal, State, Tracker};
     ///
-    /// let (mut book, path) = ([0; 24], path_bytes(&[Address::new(1, 7)]));
+    /// let (mut book, path) = ([0; 24], [Address::new(1, 7)]);
     /// let state = Tracker::open(0, &mut book, &mut [])?.state();
     /// Tracker::resume(state, &mut book, &mut []).add_path(&path)?;
     ///
-    /// let longer = teakpool::State { used: 2, ..state };
+    /// let longer = State { used: 2, ..state };
     /// let answer = Tracker::resume(longer, &mut book, &mut []).add_path(&path);
     /// assert_eq!(answer, Err(Refusal::Form));
     /// # Ok::<(), Refusal>(())
@@ -172,22 +177,34 @@ impl<'m> Tracker<'m> {
         self.queue
     }
 
-    /// Adds a path of 1 to 64 steps, eight bytes each: 9, 10, 11, 12; else its transitions and its
-    /// ending gain 1, and the path that leaves the window loses them.
+    /// Adds a path of 1 to 64 steps: its transitions and its ending gain 1, and the path that leaves
+    /// the window loses them. Nothing is allocated.
+    ///
+    /// # Errors
+    /// 9 for the tracker's form, 10 for the number of steps, 11 where 16,777,216 paths are accepted, 12
+    /// where the book has no room for the path's nodes and transitions.
     ///
     /// ```
-    /// use teakpool::{path_bytes, Address, Refusal, State, Tracker};
+    /// use teakpool::{Address, Refusal, State, Tracker};
     ///
     /// let mut book = [0; 48];
     /// let mut tracker = Tracker::open(0, &mut book, &mut [])?;
     /// assert_eq!(tracker.add_path(&[]), Err(Refusal::PathLength));
-    /// let path = path_bytes(&[Address::new(1, 7), Address::new(0, 9)]);
+    /// let path = [Address::new(1, 7), Address::new(0, 9)];
     /// assert_eq!(tracker.add_path(&path), Err(Refusal::BookFull));
-    /// tracker.add_path(&path[..8])?;
+    /// tracker.add_path(&path[..1])?;
     /// assert_eq!(tracker.state(), State { window: 0, used: 1, accepted: 1 });
     /// # Ok::<(), Refusal>(())
     /// ```
-    pub fn add_path(&mut self, path: &[u8]) -> Result<(), Refusal> {
+    pub fn add_path(&mut self, path: &[Address]) -> Result<(), Refusal> {
+        self.add_path_bytes(PathBytes::of(path).bytes())
+    }
+
+    /// The same for a path that is at hand as bytes, eight a step.
+    ///
+    /// # Errors
+    /// As `add_path`; 10 also where the bytes are not whole steps.
+    pub fn add_path_bytes(&mut self, path: &[u8]) -> Result<(), Refusal> {
         let mut state = self.state.words();
         let answer = archive::add_path(&mut state, self.book, self.queue, path);
         done(answer, Address::default())?;
@@ -195,8 +212,11 @@ impl<'m> Tracker<'m> {
         Ok(())
     }
 
-    /// A node's probabilities, evidence added to the prior: 3 to 7, 9, 13. None if the node has
-    /// no prior.
+    /// A node's probabilities, evidence added to the prior. None if the node has no prior.
+    ///
+    /// # Errors
+    /// 3 to 7 for the priors, 9 for the tracker's form, 13 where the output has fewer places than the
+    /// node has children.
     ///
     /// ```
     /// use teakpool::*;
@@ -206,7 +226,7 @@ impl<'m> Tracker<'m> {
     /// records.node(node, 1, &[(child, 2)]);
     /// let mut book = [0; 72];
     /// let mut tracker = Tracker::open(0, &mut book, &mut [])?;
-    /// tracker.add_path(&path_bytes(&[node, child]))?;
+    /// tracker.add_path(&[node, child])?;
     /// let mut output = Output { addresses: &mut [0; 8], figures: &mut [0.0] };
     /// let vector = tracker.prob_vector(records.lent(), node, &mut output)?;
     /// assert_eq!(vector, Some(ProbVector { places: 1, ending: 0.25 }));
@@ -231,8 +251,10 @@ impl<'m> Tracker<'m> {
         answered(answer, node, ProbVector { places, ending })
     }
 
-    /// A node's probabilities by its evidence alone: 9, 13. None if the node is unlisted or its
-    /// total is 0.
+    /// A node's probabilities by its evidence alone. None if the node is unlisted or its total is 0.
+    ///
+    /// # Errors
+    /// 9 for the tracker's form, 13 where the output has fewer places than the node has children.
     ///
     /// ```
     /// use teakpool::*;
@@ -240,8 +262,8 @@ impl<'m> Tracker<'m> {
     /// let node = Address::new(1, 7);
     /// let mut book = [0; 72];
     /// let mut tracker = Tracker::open(0, &mut book, &mut [])?;
-    /// tracker.add_path(&path_bytes(&[node, Address::new(0, 9)]))?;
-    /// tracker.add_path(&path_bytes(&[node]))?;
+    /// tracker.add_path(&[node, Address::new(0, 9)])?;
+    /// tracker.add_path(&[node])?;
     /// let mut output = Output { addresses: &mut [0; 8], figures: &mut [0.0] };
     /// let vector = tracker.evidence_prob_vector(node, &mut output)?;
     /// assert_eq!(vector, Some(ProbVector { places: 1, ending: 0.5 }));
@@ -263,7 +285,11 @@ impl<'m> Tracker<'m> {
         answered(answer, node, ProbVector { places, ending })
     }
 
-    /// One node's divergence: 1 to 7, 9, 14, 15. None if it is unlisted or has no prior.
+    /// One node's divergence. None if it is unlisted or has no prior.
+    ///
+    /// # Errors
+    /// 1 and 2 for the tables, 3 to 7 for the priors, 9 for the tracker's form; 14 where a child listed
+    /// under the node is not in its prior, 15 where the tables are too short for it.
     pub fn posterior_kl_divergence(
         &self,
         tables: Tables,
@@ -281,29 +307,34 @@ impl<'m> Tracker<'m> {
         answered(answer, node, value)
     }
 
-    /// The divergences of all listed nodes that have a prior, ascending: 1 to 7, 9, 13, 14, 15.
+    /// The divergences of all listed nodes that have a prior, ascending.
+    ///
+    /// # Errors
+    /// 1 and 2 for the tables, 3 to 7 for the priors, 9 for the tracker's form, 13 where the output has
+    /// fewer places than there are such nodes; then 14 and 15 by node ascending.
     ///
     /// ```
     /// use teakpool::*;
     ///
-    /// let (g, d): (Vec<f64>, Vec<f64>) =
-    ///     (0..8).map(|k| (f64::from(k * k), f64::from(4 * k))).unzip();
-    /// let tables = Tables { g: &g, d: &d };
+    /// let tables = gamma_tables(7);
     /// let (node, child) = (Address::new(1, 7), Address::new(0, 9));
     /// let mut records = PriorRecords::default();
     /// records.node(node, 1, &[(Address::new(0, 7), 2), (child, 3)]);
     /// let mut book = [0; 3 * ENTRY_BYTES];
     /// let mut tracker = Tracker::open(0, &mut book, &mut [])?;
-    /// tracker.add_path(&path_bytes(&[node, child]))?;
+    /// tracker.add_path(&[node, child])?;
     ///
     /// let mut output = Output { addresses: &mut [0; 8], figures: &mut [0.0] };
-    /// let list = tracker.all_node_kl(tables, records.lent(), &mut output)?;
+    /// let list = tracker.all_node_kl(tables.lent(), records.lent(), &mut output)?;
     /// // The child is listed as well, and has no prior.
     /// assert_eq!(list, NodeKlList { places: 1, skipped: 1 });
-    /// assert_eq!(output.places(list.places).collect::<Vec<_>>(), [(node, 6.0)]);
+    /// for (at, divergence) in output.places(list.places) {
+    ///     assert_eq!(at, node);
+    ///     assert!((divergence - (47.0 / 60.0 - 2.0_f64.ln())).abs() < 1.0e-14);
+    /// }
     ///
     /// let mut none = Output { addresses: &mut [], figures: &mut [] };
-    /// let answer = tracker.all_node_kl(tables, records.lent(), &mut none);
+    /// let answer = tracker.all_node_kl(tables.lent(), records.lent(), &mut none);
     /// assert_eq!(answer, Err(Refusal::OutputShort));
     /// # Ok::<(), Refusal>(())
     /// ```
@@ -326,7 +357,10 @@ impl<'m> Tracker<'m> {
         Ok(NodeKlList { places: counts[0], skipped: counts[1] })
     }
 
-    /// The statistics over all divergences: 1 to 7, 9, 14, 15.
+    /// The statistics over all divergences.
+    ///
+    /// # Errors
+    /// As `all_node_kl`, without 13.
     pub fn kl_div_stats(&self, tables: Tables, priors: Priors) -> Result<KLDivergenceStats, Refusal> {
         let (mut figures, mut counts, mut node) = ([0.0; 4], [0; 3], Address::default());
         let answer = archive::kl_div_stats(
@@ -342,6 +376,35 @@ impl<'m> Tracker<'m> {
         let [number, sequence_length, skipped] = counts;
         Ok(KLDivergenceStats { maximum, minimum, number, sum, sum_of_squares, sequence_length, skipped })
     }
+}
+
+/// Entries that a path of 64 steps needs: its nodes and its transitions.
+const PATH_ENTRIES: usize = 2 * MAX_STEPS - 1;
+
+/// Tries a path by itself, before it is added to a tracker. It takes about 3 KB of stack for a book
+/// of its own.
+///
+/// # Errors
+/// What `kl_div_stats` would give for a tracker that has this path and no other: 14 with a node of
+/// the path that goes on to a child which its prior does not have, 15 where the tables are too short
+/// even for this path alone, 1 to 7 for tables and priors; and 10 for the number of steps.
+///
+/// ```
+/// use teakpool::*;
+///
+/// let (node, nine) = (Address::new(1, 7), Address::new(0, 9));
+/// let mut records = PriorRecords::default();
+/// records.node(node, 1, &[(nine, 3)]);
+/// let tables = gamma_tables(40);
+/// assert_eq!(try_path(tables.lent(), records.lent(), &[node, nine]), Ok(()));
+/// let unseen = try_path(tables.lent(), records.lent(), &[node, node]);
+/// assert_eq!(unseen, Err(Refusal::MissingChild(node)));
+/// ```
+pub fn try_path(tables: Tables, priors: Priors, path: &[Address]) -> Result<(), Refusal> {
+    let mut book = [0; PATH_ENTRIES * ENTRY_BYTES];
+    let mut tracker = Tracker::open(0, &mut book, &mut [])?;
+    tracker.add_path(path)?;
+    tracker.kl_div_stats(tables, priors).map(|_| ())
 }
 
 /// A value, goko's `None`, or a refusal.

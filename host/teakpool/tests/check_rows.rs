@@ -1,4 +1,4 @@
-//! The kit's check rows of document 01, through the archive. G(k) = k × k and D(k) = 4k up to
+//! The kit's check rows, through the archive. G(k) = k × k and D(k) = 4k up to
 //! index 7; the prior of (1,7) has singleton 1 and children (0,7) with 2 and (0,9) with 3; the
 //! window is 1.
 
@@ -25,7 +25,7 @@ impl Kit {
         }
     }
     fn tables(&self) -> Tables<'_> {
-        Tables { g: &self.g, d: &self.d }
+        Tables::new(&self.g, &self.d)
     }
     fn priors(&self) -> Priors<'_> {
         self.records.lent()
@@ -37,7 +37,7 @@ fn after<T>(entries: usize, paths: &[&[Address]], ask: impl FnOnce(&Tracker) -> 
     let (mut book, mut queue) = (vec![0xff; ENTRY_BYTES * entries], [0xff; PLACE_BYTES]);
     let mut tracker = Tracker::open(1, &mut book, &mut queue)?;
     for path in paths {
-        tracker.add_path(&path_bytes(path))?;
+        tracker.add_path(path)?;
     }
     Ok(ask(&tracker))
 }
@@ -132,9 +132,38 @@ fn path_lengths_and_windows() {
     {
         assert_eq!(after(8, &[&longest[..count]], |_| ()), answer, "{} steps", count);
     }
+    // The form comes first, also where a path is too long.
+    let broken = State { window: 1_025, ..State::default() };
+    let answer = Tracker::resume(broken, &mut [0; ENTRY_BYTES], &mut []).add_path(&longest);
+    assert_eq!(answer, Err(Refusal::Form));
     let mut queue = vec![0; PLACE_BYTES * 1_025];
     let mut open = |window: u32| Tracker::open(window, &mut [0; ENTRY_BYTES], &mut queue).map(|_| ());
     assert_eq!((open(1_024), open(1_025)), (Ok(()), Err(Refusal::Window)));
+}
+
+#[test]
+fn paths_as_bytes() {
+    let (mut book, mut other) = ([0; 8 * ENTRY_BYTES], [0; 8 * ENTRY_BYTES]);
+    let path = path_bytes(&[NODE, NINE, NODE]);
+    let mut tracker = Tracker::open(0, &mut book, &mut []).unwrap();
+    assert_eq!(tracker.add_path_bytes(&path[..23]), Err(Refusal::PathLength));
+    tracker.add_path_bytes(&path).unwrap();
+    let mut same = Tracker::open(0, &mut other, &mut []).unwrap();
+    same.add_path(&[NODE, NINE, NODE]).unwrap();
+    assert_eq!((tracker.state(), tracker.book()), (same.state(), same.book()));
+}
+
+#[test]
+fn a_path_tried_by_itself() {
+    let kit = Kit::up_to(7);
+    let tried = |path: &[Address]| try_path(kit.tables(), kit.priors(), path);
+    assert_eq!((tried(&[NODE, NINE]), tried(&[NINE, SEVEN])), (Ok(()), Ok(())));
+    assert_eq!(tried(&[NODE, NODE]), Err(Refusal::MissingChild(NODE)));
+    assert_eq!(tried(&[NODE, NINE, NODE]), Err(Refusal::PastTable(NODE)));
+    assert_eq!((tried(&[]), tried(&[NODE; 65])), (Err(Refusal::PathLength), Err(Refusal::PathLength)));
+    // The longest path of nodes without a prior fits in the book.
+    let longest: Vec<Address> = (0..64).map(|point| Address::new(-1, point)).collect();
+    assert_eq!(tried(&longest), Ok(()));
 }
 
 #[test]

@@ -5,7 +5,6 @@
 //!     watch FILE
 
 mod day;
-mod gamma;
 mod progress;
 mod refused;
 mod report;

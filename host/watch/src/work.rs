@@ -2,12 +2,12 @@
 //! statistics after each and holds them against the baseline, and notes where they drift.
 
 use crate::day::{Day, Path, Problem, TableRule, MAX_ENTRIES, MAX_LAST};
-use crate::gamma;
 use crate::progress::{during, Steps};
 use crate::refused::told;
 use teakpool::{
-    path_bytes, place_bytes, Address, Baseline, BaselineStats, KLDivergenceStats, MeanVariance, Output,
-    PriorRecords, Priors, Refusal, Sequences, Tables, Tracker, ENTRY_BYTES, KNOT_VALUES, PLACE_BYTES,
+    gamma_tables, place_bytes, Address, Baseline, BaselineStats, GammaTables, KLDivergenceStats,
+    MeanVariance, Output, PriorRecords, Priors, Refusal, Sequences, Tables, Tracker, ENTRY_BYTES,
+    KNOT_VALUES, PLACE_BYTES,
 };
 
 /// Drifting paths with fewer than this between them are one stretch.
@@ -71,7 +71,10 @@ struct LentParts {
 impl LentParts {
     fn of(day: &Day) -> LentParts {
         let (g, d) = match &day.tables {
-            TableRule::Gamma => gamma::tables(day.last_index().clamp(1, MAX_LAST as u64) as usize),
+            TableRule::Gamma => {
+                let GammaTables { g, d } = gamma_tables(day.last_index().clamp(1, MAX_LAST as u64) as usize);
+                (g, d)
+            }
             TableRule::Squares(last) => (0..=*last).map(|k| ((k * k) as f64, (4 * k) as f64)).unzip(),
             TableRule::Numbers { g, d } => (g.values.clone(), d.values.clone()),
         };
@@ -85,7 +88,7 @@ impl LentParts {
     }
 
     fn tables(&self) -> Tables<'_> {
-        Tables { g: &self.g, d: &self.d }
+        Tables::new(&self.g, &self.d)
     }
 
     fn priors(&self) -> Priors<'_> {
@@ -122,7 +125,7 @@ pub fn watch(day: &Day) -> Result<Watched, Problem> {
     let mut tracker = Tracker::open(day.window, &mut book, &mut queue).map_err(told_at(first))?;
     let mut steps = Steps::new("the day's paths", day.paths.len());
     for (index, path) in day.paths.iter().enumerate() {
-        tracker.add_path(&path_bytes(&path.steps)).map_err(told_at(path))?;
+        tracker.add_path(&path.steps).map_err(told_at(path))?;
         let reading = read(&tracker, &lent, baseline).map_err(told_at(path))?;
         if let Some(deviations) = reading.deviations.filter(|deviations| *deviations > day.drift) {
             let worse = note(&mut watched.stretches, index, deviations);
@@ -170,7 +173,7 @@ fn where_stopped(day: &Day, lent: &LentParts, book: &mut [u8], rate: u32, stoppe
     let again = day.sequences.iter().try_for_each(|sequence| {
         let mut tracker = Tracker::open(0, book, &mut []).map_err(told_at(first))?;
         sequence.iter().zip(0_u32..).try_for_each(|(path, index)| {
-            tracker.add_path(&path_bytes(&path.steps)).map_err(told_at(path))?;
+            tracker.add_path(&path.steps).map_err(told_at(path))?;
             if index % rate == 0 {
                 tracker.kl_div_stats(lent.tables(), lent.priors()).map_err(told_at(path))?;
             }
