@@ -1,214 +1,140 @@
-/* Opens a tracker in memory of its own, adds two paths and reads what the watch says of them. Every answer is held against the
- * figure that follows by hand from tables with G(k) = k * k and D(k) = 4k. */
+/* The watch in a terminal, from its tables to drift: fills the tables, lends priors, opens a tracker, tries each path before it is
+ * added, reads how far the node (1,7) has moved, and holds the day against a baseline of two good days.
+ *
+ * The prior of (1,7): paths ended there once, went on to (0,7) twice and to (0,9) three times. Compiles as C99, C11 and C++11. */
 #include "teakpool.h"
-#include "bytes.h"
+#include "teakpool_tables.h"
 
+#include <stdio.h>
 #include <string.h>
 
+/* The greatest prior total is 6. With a window of 4, paths of at most 2 steps and none that meets a node twice, 6 + 4 + 1 entries
+ * are enough. */
+#define TABLE_LENGTH 11u
+#define WINDOW 4u
 #define ENTRIES 8u
+#define NODES_WITH_PRIOR 1u
 
-/* What the watch is lent beside the tracker. */
-static double g[8];
-static double d[8];
-static uint8_t nodes[TEAKPOOL_RECORD_SIZE];
-static uint8_t children[2 * TEAKPOOL_RECORD_SIZE];
+#define LN_2 0.69314718055994530942
+#define LN_6 1.79175946922805500081
 
-/* A tracker. */
-static uint32_t state[3];
-static uint8_t book[ENTRIES * TEAKPOOL_ENTRY_SIZE];
-static uint8_t queue[TEAKPOOL_PLACE_SIZE];
+static double g[TABLE_LENGTH], d[TABLE_LENGTH];
+static uint8_t node_records[NODES_WITH_PRIOR * TEAKPOOL_RECORD_SIZE], child_records[2 * TEAKPOOL_RECORD_SIZE];
+static uint8_t book[ENTRIES * TEAKPOOL_ENTRY_SIZE], queue[WINDOW * TEAKPOOL_PLACE_SIZE];
+static uint8_t trial_book[TEAKPOOL_PATH_ENTRIES * TEAKPOOL_ENTRY_SIZE];
 
-static void lend(void)
+static int failures = 0;
+
+/* Figures here follow by hand from ln gamma and digamma, up to rounding. */
+static int is_near(double value, double expected)
 {
-    for (uint32_t k = 0; k < 8; k++) {
-        g[k] = (double)(k * k);
-        d[k] = (double)(4 * k);
+    return value - expected < 1.0e-14 && expected - value < 1.0e-14;
+}
+
+static int expect(int holds, const char *what)
+{
+    if (!holds) {
+        printf("not as expected: %s\n", what);
+        failures++;
     }
-    put_record(nodes, 1, 7, 1, 1);
-    put_record(children, 0, 7, 2, 2);
-    put_record(children + TEAKPOOL_RECORD_SIZE, 0, 9, 3, 0);
-    expect(teakpool_check_tables(g, 8, d, 8) == TEAKPOOL_DONE, "tables keep their rules");
-    expect(teakpool_check_tables(g, 8, d, 7) == TEAKPOOL_TABLE_LENGTHS, "tables of two lengths");
-    expect(teakpool_check_priors(nodes, sizeof nodes, children, sizeof children) == TEAKPOOL_DONE, "priors keep their rules");
-    expect(teakpool_check_priors(nodes, 15, children, sizeof children) == TEAKPOOL_PRIOR_SIZES, "a part of a record");
+    return holds;
 }
 
-static void open_tracker(void)
+static struct teakpool_priors make_priors(void)
 {
-    memset(book, 170, sizeof book);
-    memset(queue, 170, sizeof queue);
-    state[0] = state[1] = state[2] = 77;
-    expect(teakpool_open(1025, book, sizeof book, queue, sizeof queue, state) == TEAKPOOL_WINDOW, "a window over 1,024");
-    expect(state[0] == 77 && state[1] == 77 && state[2] == 77, "a refused opening writes no state");
-    expect(book[0] == 170 && queue[0] == 170, "a refused opening writes no byte");
-    expect(teakpool_open(1, book, sizeof book, queue, sizeof queue, state) == TEAKPOOL_DONE, "an opening");
-    expect(state[0] == 1 && state[1] == 0 && state[2] == 0, "the fresh state");
-    expect(book[sizeof book - 1] == 0 && queue[sizeof queue - 1] == 0, "book and queue are zeroed");
+    teakpool_put_record(node_records, teakpool_make_address(1, 7), 1, 1);
+    teakpool_put_record(child_records, teakpool_make_address(0, 7), 2, 2);
+    teakpool_put_record(child_records + TEAKPOOL_RECORD_SIZE, teakpool_make_address(0, 9), 3, 0);
+    return teakpool_make_priors(teakpool_make_nodes(node_records, sizeof node_records),
+                                teakpool_make_children(child_records, sizeof child_records));
 }
 
-static void add(const uint8_t *path, size_t length, uint32_t used, uint32_t accepted)
+/* A path of two steps: from (1,7) to (0, point). */
+static struct teakpool_path path_to(uint8_t *bytes, uint32_t point)
 {
-    expect(teakpool_add_path(state, book, sizeof book, queue, sizeof queue, path, length) == TEAKPOOL_DONE, "an add");
-    expect(state[0] == 1 && state[1] == used && state[2] == accepted, "the state after an add");
+    teakpool_put_address(bytes, teakpool_make_address(1, 7));
+    teakpool_put_address(bytes + TEAKPOOL_STEP_SIZE, teakpool_make_address(0, point));
+    return teakpool_make_path(bytes, 2 * TEAKPOOL_STEP_SIZE);
 }
 
-static void small_books(const uint8_t *path, size_t length)
+/* Adds a path, unless its prior has never seen a transition in it: that is a finding of its own. */
+static uint32_t watch_path(struct teakpool_tracker *tracker, struct teakpool_priors priors, struct teakpool_tables tables,
+                           struct teakpool_path path)
 {
-    uint8_t small[3 * TEAKPOOL_ENTRY_SIZE];
-    uint32_t own[3];
-    size_t two = 2 * TEAKPOOL_ENTRY_SIZE;
-    expect(teakpool_open(0, small, two, queue, 0, own) == TEAKPOOL_DONE, "a window of 0 needs no queue");
-    expect(teakpool_add_path(own, small, two, queue, 0, path, length) == TEAKPOOL_BOOK_FULL, "a book of two entries");
-    expect(own[1] == 0 && own[2] == 0, "a refused add leaves the state");
-    expect(teakpool_open(0, small, sizeof small, queue, 0, own) == TEAKPOOL_DONE, "a book of three entries");
-    expect(teakpool_add_path(own, small, sizeof small, queue, 0, path, length) == TEAKPOOL_DONE, "it takes the path");
-    expect(own[1] == 3 && own[2] == 1, "three entries used");
-}
-
-static void read_one_divergence(double divergence)
-{
-    double value = -1.0;
-    uint32_t code = teakpool_posterior_kl_divergence(state, book, sizeof book, queue, sizeof queue, nodes, sizeof nodes, children,
-                                                     sizeof children, g, 8, d, 8, 1, 7, &value);
-    expect(code == TEAKPOOL_DONE && value == divergence, "the divergence of (1,7)");
-    code = teakpool_posterior_kl_divergence(state, book, sizeof book, queue, sizeof queue, nodes, sizeof nodes, children,
-                                            sizeof children, g, 8, d, 8, 0, 9, &value);
-    expect(code == TEAKPOOL_NONE && value == divergence, "(0,9) has no prior: none, and nothing is written");
-}
-
-static void read_all_divergences(double divergence)
-{
-    uint8_t addresses[2 * TEAKPOOL_STEP_SIZE];
-    double figures[2] = {-1.0, -1.0};
-    uint32_t counts[2] = {9, 9};
-    int32_t node_scale = -5;
-    uint32_t node_point = 5;
-    uint32_t code = teakpool_all_node_kl(state, book, sizeof book, queue, sizeof queue, nodes, sizeof nodes, children,
-                                         sizeof children, g, 8, d, 8, addresses, sizeof addresses, figures, 2, counts, &node_scale,
-                                         &node_point);
-    expect(code == TEAKPOOL_DONE, "the divergences of all nodes");
-    expect(counts[0] == 1 && counts[1] == 1, "one place filled, one node skipped");
-    expect(is_address(addresses, 1, 7) && figures[0] == divergence && figures[1] == -1.0, "the place of (1,7)");
-    expect(node_scale == -5 && node_point == 5, "no node is named");
-}
-
-static void read_statistics(double divergence)
-{
-    double figures[4] = {0.0, 0.0, 0.0, 0.0};
-    uint64_t counts[3] = {9, 9, 9};
-    int32_t node_scale = -5;
-    uint32_t node_point = 5;
-    uint32_t code = teakpool_kl_div_stats(state, book, sizeof book, queue, sizeof queue, nodes, sizeof nodes, children,
-                                          sizeof children, g, 8, d, 8, figures, counts, &node_scale, &node_point);
-    expect(code == TEAKPOOL_DONE, "the statistics");
-    expect(figures[0] == divergence && figures[1] == divergence, "maximum and minimum");
-    expect(figures[2] == divergence && figures[3] == divergence * divergence, "sum and sum of squares");
-    expect(counts[0] == 1 && counts[1] == 1 && counts[2] == 1, "one above 1.0e-10, of length 1, one skipped");
-    expect(node_scale == -5 && node_point == 5, "no node is named");
-}
-
-static void read_short_tables(void)
-{
-    double figures[4] = {0.0, 0.0, 0.0, 0.0};
-    uint64_t counts[3] = {9, 9, 9};
-    int32_t node_scale = -5;
-    uint32_t node_point = 5;
-    uint32_t code = teakpool_kl_div_stats(state, book, sizeof book, queue, sizeof queue, nodes, sizeof nodes, children,
-                                          sizeof children, g, 7, d, 7, figures, counts, &node_scale, &node_point);
-    expect(code == TEAKPOOL_PAST_TABLE, "tables that end at 6");
-    expect(node_scale == 1 && node_point == 7, "the node that 15 names");
-    expect(figures[0] == 0.0 && counts[0] == 9, "no statistics are written");
-}
-
-static void read_probabilities(void)
-{
-    uint8_t addresses[2 * TEAKPOOL_STEP_SIZE];
-    double figures[2];
-    uint32_t places = 9;
-    double ending = -1.0;
-    uint32_t code = teakpool_prob_vector(state, book, sizeof book, queue, sizeof queue, nodes, sizeof nodes, children,
-                                         sizeof children, 1, 7, addresses, sizeof addresses, figures, 2, &places, &ending);
-    expect(code == TEAKPOOL_DONE && places == 2, "the probabilities at (1,7)");
-    expect(figures[0] == 2.0 / 7.0 && figures[1] == 3.0 / 7.0 && ending == 2.0 / 7.0, "2/7, 3/7, ending 2/7");
-    expect(is_address(addresses, 0, 7) && is_address(addresses + TEAKPOOL_STEP_SIZE, 0, 9), "the children ascend");
-    code = teakpool_evidence_prob_vector(state, book, sizeof book, queue, sizeof queue, 0, 9, addresses, sizeof addresses, figures,
-                                         2, &places, &ending);
-    expect(code == TEAKPOOL_NONE && places == 2, "the evidence of (0,9), which is listed with a total of 0: none");
-}
-
-/* Four paths in a tracker of window 0, all from (1,7): to (0,9), to (-1,3), one of a single step, and to (0,9) again. */
-static void read_evidence(void)
-{
-    static const struct {
-        size_t steps;
-        int32_t scale;
-        uint32_t point;
-    } next[] = {{2, 0, 9}, {2, -1, 3}, {1, 0, 0}, {2, 0, 9}};
-    uint8_t path[2 * TEAKPOOL_STEP_SIZE];
-    uint8_t addresses[3 * TEAKPOOL_STEP_SIZE];
-    double figures[3] = {-1.0, -1.0, -1.0};
-    uint32_t own[3], places = 9;
-    double ending = -1.0;
-    expect(teakpool_open(0, book, sizeof book, queue, 0, own) == TEAKPOOL_DONE, "an opening with a window of 0");
-    put_address(path, 1, 7);
-    for (size_t i = 0; i < sizeof next / sizeof next[0]; i++) {
-        put_address(path + TEAKPOOL_STEP_SIZE, next[i].scale, next[i].point);
-        expect(teakpool_add_path(own, book, sizeof book, queue, 0, path, next[i].steps * TEAKPOOL_STEP_SIZE) == TEAKPOOL_DONE,
-               "an add without a queue");
+    struct teakpool_address node;
+    uint32_t code = teakpool_try_path(priors, tables, path, teakpool_make_book(trial_book, sizeof trial_book), &node);
+    if (code == TEAKPOOL_MISSING_CHILD) {
+        printf("never seen before: a path goes on from (%ld,%lu) in a new way\n", (long)node.scale, (unsigned long)node.point);
     }
-    uint32_t code = teakpool_evidence_prob_vector(own, book, sizeof book, queue, 0, 1, 7, addresses, sizeof addresses, figures, 3,
-                                                  &places, &ending);
-    expect(code == TEAKPOOL_DONE && places == 2, "the evidence of (1,7)");
-    expect(is_address(addresses, -1, 3) && is_address(addresses + TEAKPOOL_STEP_SIZE, 0, 9), "the children ascend by signed scale");
-    expect(figures[0] == 1.0 / 4.0 && figures[1] == 2.0 / 4.0 && ending == 1.0 / 4.0, "1/4, 2/4, ending 1/4");
-    expect(figures[2] == -1.0, "the place past the answer keeps what it held");
+    return code == TEAKPOOL_DONE ? teakpool_tracker_add_path(tracker, path) : code;
 }
 
-static void train_and_ask(void)
+static void read_divergences(const struct teakpool_tracker *tracker, struct teakpool_priors priors, struct teakpool_tables tables)
 {
-    uint8_t sequences[2 * TEAKPOOL_PLACE_SIZE];
-    uint8_t work[ENTRIES * TEAKPOOL_ENTRY_SIZE];
+    uint8_t addresses[NODES_WITH_PRIOR * TEAKPOOL_STEP_SIZE];
+    double figures[NODES_WITH_PRIOR];
+    struct teakpool_output output = teakpool_make_output(addresses, figures, NODES_WITH_PRIOR);
+    struct teakpool_list list;
+    uint32_t code = teakpool_tracker_all_node_kl(tracker, priors, tables, output, &list);
+    uint32_t i;
+    if (!expect(code == TEAKPOOL_DONE, "the divergences of all nodes")) {
+        return;
+    }
+    for (i = 0; i < list.places; i++) {
+        struct teakpool_address node = teakpool_address_at(addresses + i * TEAKPOOL_STEP_SIZE);
+        printf("divergence of (%ld,%lu): %.6f\n", (long)node.scale, (unsigned long)node.point, figures[i]);
+    }
+    /* (0,9) is listed too, and has no prior. For (1,7): G(6) - G(3) - G(7) + G(4) + D(6) - D(3). */
+    expect(list.places == 1 && list.skipped == 1, "one node with a prior, one without");
+    expect(is_near(figures[0], 47.0 / 60.0 - LN_2), "47/60 - ln 2");
+}
+
+/* Two good days of one path each: to (0,9), and one that ends at (1,7). */
+static void hold_against_baseline(const struct teakpool_tracker *tracker, struct teakpool_priors priors, struct teakpool_tables tables)
+{
+    uint8_t places[2 * TEAKPOOL_PLACE_SIZE], work[ENTRIES * TEAKPOOL_ENTRY_SIZE], step[2 * TEAKPOOL_STEP_SIZE];
     uint32_t knots[1];
     double values[TEAKPOOL_KNOT_VALUES];
-    uint32_t count = 9;
-    int32_t node_scale = -5;
-    uint32_t node_point = 5;
-    double figures[10];
-    memset(sequences, 0, sizeof sequences);
-    put_word(sequences, 2);
-    put_address(sequences + 4, 1, 7);
-    put_address(sequences + 12, 0, 9);
-    put_word(sequences + TEAKPOOL_PLACE_SIZE, 1);
-    put_address(sequences + TEAKPOOL_PLACE_SIZE + 4, 1, 7);
-    uint32_t code = teakpool_train(g, 8, d, 8, nodes, sizeof nodes, children, sizeof children, sequences, sizeof sequences, 2, 1, 1,
-                                   work, sizeof work, knots, 1, values, TEAKPOOL_KNOT_VALUES, &count, &node_scale, &node_point);
-    expect(code == TEAKPOOL_DONE, "training on two sequences of one path");
-    expect(count == 1 && knots[0] == 1, "one knot, of length 1");
-    expect(teakpool_stats(knots, 1, values, TEAKPOOL_KNOT_VALUES, 2, 1, figures) == TEAKPOOL_DONE, "the baseline at length 1");
-    expect(figures[0] == 8.0 && figures[1] == 4.0, "maxima 6 and 10: mean 8, variance 4");
-    expect(teakpool_stats(knots, 1, values, TEAKPOOL_KNOT_VALUES, 2, 2, figures) == TEAKPOOL_ONE_KNOT, "past the only knot");
+    struct teakpool_baseline baseline = teakpool_make_baseline(knots, values, 1);
+    struct teakpool_sequences sequences = teakpool_make_sequences(places, sizeof places, 2, 1, 1);
+    struct teakpool_path path = path_to(step, 9);
+    struct teakpool_statistics now;
+    struct teakpool_usual usual;
+    uint32_t code;
+    memset(places, 0, sizeof places);
+    teakpool_put_word(places, 2);
+    memcpy(places + 4, path.at, path.length);
+    teakpool_put_word(places + TEAKPOOL_PLACE_SIZE, 1);
+    memcpy(places + TEAKPOOL_PLACE_SIZE + 4, path.at, TEAKPOOL_STEP_SIZE);
+    code = teakpool_baseline_train(&baseline, priors, tables, sequences, teakpool_make_book(work, sizeof work));
+    if (!expect(code == TEAKPOOL_DONE, "a training") ||
+        !expect(teakpool_tracker_kl_div_stats(tracker, priors, tables, &now) == TEAKPOOL_DONE, "the statistics") ||
+        !expect(teakpool_baseline_stats(&baseline, (uint32_t)now.sequence_length, &usual) == TEAKPOOL_DONE, "the baseline")) {
+        return;
+    }
+    printf("maximum at length %lu: %.6f; usual: %.6f\n", (unsigned long)now.sequence_length, now.maximum, usual.maximum.mean);
+    /* The first day's maximum is that of above; the second day's is G(6) - G(7) + D(6) - D(1). */
+    expect(is_near(usual.maximum.mean, (47.0 / 60.0 - LN_2 + 137.0 / 60.0 - LN_6) / 2.0), "the mean of two days");
 }
 
 int main(void)
 {
-    uint8_t path[2 * TEAKPOOL_STEP_SIZE];
-    put_address(path, 1, 7);
-    put_address(path + TEAKPOOL_STEP_SIZE, 0, 9);
-    lend();
-    open_tracker();
-    add(path, sizeof path, 3, 1);
-    read_one_divergence(6.0);
-    read_all_divergences(6.0);
-    read_statistics(6.0);
-    add(path, TEAKPOOL_STEP_SIZE, 3, 2);
-    read_one_divergence(10.0);
-    read_all_divergences(10.0);
-    read_statistics(10.0);
-    read_short_tables();
-    read_probabilities();
-    small_books(path, sizeof path);
-    read_evidence();
-    train_and_ask();
+    struct teakpool_tables tables = teakpool_gamma_tables(g, d, TABLE_LENGTH);
+    struct teakpool_priors priors = make_priors();
+    struct teakpool_tracker tracker =
+        teakpool_make_tracker(teakpool_make_book(book, sizeof book), teakpool_make_queue(queue, sizeof queue));
+    uint8_t bytes[2 * TEAKPOOL_STEP_SIZE];
+    if (teakpool_version() != TEAKPOOL_VERSION) {
+        printf("the archive is of another version than the header\n");
+        return 1;
+    }
+    expect(teakpool_tables_check(tables) == TEAKPOOL_DONE, "tables keep their rules");
+    expect(teakpool_priors_check(priors) == TEAKPOOL_DONE, "priors keep their rules");
+    expect(teakpool_tracker_open(&tracker, WINDOW) == TEAKPOOL_DONE, "an opening");
+    expect(watch_path(&tracker, priors, tables, path_to(bytes, 9)) == TEAKPOOL_DONE, "a path that the prior knows");
+    expect(watch_path(&tracker, priors, tables, path_to(bytes, 8)) == TEAKPOOL_MISSING_CHILD, "one that it does not know");
+    read_divergences(&tracker, priors, tables);
+    hold_against_baseline(&tracker, priors, tables);
     if (failures == 0) {
         printf("drift: every answer is as expected\n");
     }
