@@ -1,8 +1,8 @@
 /* The drift watch as a C library: paths through a tree are counted over a window, and the counts are held against priors.
  *
  * Link libteakpool.a, which is for x86-64 Linux. Beside it the archive wants memset of the C library, and nothing else. The rules
- * of the watch are in docs/RULES.md: what addresses, priors, book and queue are, each figure's formula, and what to do about each
- * refusal.
+ * of the watch are in docs/RULES.md, installed as share/doc/teakpool/RULES.md: what addresses, priors, book and queue are, each
+ * figure's formula, and what to do about each refusal.
  *
  * Every call is declared twice. The plain functions come first; they are what the archive has, and take each slice as a pointer and
  * a length. After them the same calls take structs, one for each group of things lent, and are `static inline` over the plain ones.

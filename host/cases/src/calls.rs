@@ -50,7 +50,7 @@ impl Places {
     }
 }
 
-/// One call. The two lendings are no calls of 01: what they carry is lent to the readings
+/// One call. The two lendings are no calls of the watch: what they carry is lent to the readings
 /// that follow.
 #[derive(Debug, Clone)]
 pub enum Call {

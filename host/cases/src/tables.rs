@@ -5,7 +5,7 @@ use crate::calls::Tables;
 use crate::rng::Rng;
 use recount::limits::{MAX_TABLE_ENTRY, THRESHOLD};
 
-/// G(k) = k × k and D(k) = 4k up to index `last`, as in 01's check rows.
+/// G(k) = k × k and D(k) = 4k up to index `last`, as in the check rows.
 pub fn squares(last: usize) -> Tables {
     let table = |value: fn(f64) -> f64| (0..=last).map(|k| value(k as f64)).collect();
     Tables { g: table(|k| k * k), d: table(|k| 4.0 * k) }

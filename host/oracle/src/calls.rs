@@ -1,4 +1,4 @@
-//! The calls of document 01 on goko's own types. Nothing is worked out here: arguments are
+//! The calls of docs/RULES.md on goko's own types. Nothing is worked out here: arguments are
 //! brought into goko's forms, and its answers are handed on.
 
 use crate::caught::{caught, Panic};
@@ -133,7 +133,7 @@ impl Goko {
 }
 
 /// `DirichletBaseline::train` over given sequences of equal length: knots and, for each, its
-/// ten sums in the order of document 01.
+/// ten sums in the order of docs/RULES.md.
 pub fn train(
     priors: &[Prior],
     sequences: &[Vec<Vec<NodeAddress>>],

@@ -1,7 +1,7 @@
 //! Stands for goko's cover tree: the reader is a map from exact address to prior, and the
 //! point cloud is a list of given paths, a point being a place in that list. No tree lies
 //! behind them, so there are no layers and no `CoverNode` can exist; the methods of goko that
-//! would read one are outside document 01 and need only compile.
+//! would read one have no part in docs/RULES.md and need only compile.
 
 // goko names `len` alone.
 #![allow(clippy::len_without_is_empty)]

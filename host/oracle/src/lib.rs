@@ -1,5 +1,5 @@
 //! goko's tracker.rs, categorical.rs, dirichlet.rs and baseline.rs, compiled unchanged from
-//! where they lie, and calls on them for the comparison with document 01. What the files
+//! where they lie, and calls on them for the comparison with docs/RULES.md. What the files
 //! import is stood for by the shim crates and by the modules here. Without the files
 //! (`no_goko`) the crate is empty but for `PRESENT`.
 

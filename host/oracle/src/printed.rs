@@ -1,5 +1,5 @@
 //! goko prints a line for each node it skips for want of a prior. Here the line is counted
-//! instead: that count is the number skipped in document 01.
+//! instead: that count is the number skipped in docs/RULES.md.
 
 use std::cell::Cell;
 

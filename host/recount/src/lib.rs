@@ -1,7 +1,7 @@
-//! Document 01 as plain Rust, written from its text alone. `Recount` keeps W and H, the list
-//! of accepted paths, and works everything out afresh at each call. `memory` carries out one
-//! call on lent bytes, whoever wrote them. Both give the same `Evidence` to the readings, so
-//! the formulas stand once. Refusals carry the numbers of 01's table.
+//! The rules of docs/RULES.md as plain Rust, with no code of the library. `Recount` keeps W and
+//! H, the list of accepted paths, and works everything out afresh at each call. `memory` carries
+//! out one call on lent bytes, whoever wrote them. Both give the same `Evidence` to the readings,
+//! so the formulas stand once. Refusals carry the rules' numbers.
 
 mod address;
 mod evidence;

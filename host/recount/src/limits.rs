@@ -1,4 +1,4 @@
-//! The limits of document 01, by their names there.
+//! The limits of docs/RULES.md.
 
 /// Largest window.
 pub const MAX_WINDOW: u32 = 1_024;

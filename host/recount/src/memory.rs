@@ -67,7 +67,7 @@ pub fn add_path(state: State, book: &mut [u8], queue: &mut [u8], path: &[u8]) ->
 }
 
 impl Memory<'_> {
-    /// Whether state, used entries and filled places are as 01's form asks.
+    /// Whether state, used entries and filled places are as the form asks.
     pub fn form_holds(&self) -> bool {
         let State { window, used, accepted } = self.state;
         window <= MAX_WINDOW

@@ -215,7 +215,7 @@ fn divergences(
     Ok((list, skipped))
 }
 
-/// A node's divergence by 01's formula, left to right; 14 before 15.
+/// A node's divergence by the rules' formula, left to right; 14 before 15.
 fn divergence(tables: LentTables, prior: &Prior, counted: &NodeEvidence) -> Result<f64, Refusal> {
     let mut pairs = Vec::new();
     if prior.singleton > 0 {

@@ -1,4 +1,4 @@
-//! A refusal: its number in document 01's table, and for 14 and 15 the node.
+//! A refusal: its number in docs/RULES.md's table, and for 14 and 15 the node.
 
 use crate::address::Address;
 

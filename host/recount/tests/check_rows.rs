@@ -1,5 +1,6 @@
-//! The kit's check rows of document 01. G(k) = k × k and D(k) = 4k up to index 7; the prior of
-//! (1,7) has singleton 1 and children (0,7) with 2 and (0,9) with 3; the window is 1.
+//! The kit's check rows, which docs/RULES.md has as worked examples. G(k) = k × k and D(k) = 4k up
+//! to index 7; the prior of (1,7) has singleton 1 and children (0,7) with 2 and (0,9) with 3; the
+//! window is 1.
 
 use recount::limits::{ENTRY_BYTES, PLACE_BYTES};
 use recount::*;

@@ -6,7 +6,7 @@
 //! of `include/teakpool_tables.h`, so that both give the same bits on every machine.
 
 /// Minus Euler's constant: digamma at 1.
-const DIGAMMA_1: Pair = Pair { high: -0.577_215_664_901_532_87, low: 4.942_915_152_430_645_1e-18 };
+const DIGAMMA_1: Pair = Pair { high: -0.577_215_664_901_532_9, low: 4.942_915_152_430_645e-18 };
 
 /// A number in two parts, the second below the last bit of the first.
 #[derive(Clone, Copy)]

@@ -1,5 +1,5 @@
 //! Stands for `hashbrown`: the map is ordered, so that goko's loops over its nodes go
-//! ascending by address, as document 01 says. goko's own hash order is arbitrary; a build for
+//! ascending by address, as docs/RULES.md says. goko's own hash order is arbitrary; a build for
 //! timing alone can have a hash map (build.rs).
 
 #[cfg(not(hashed))]

@@ -54,7 +54,7 @@ impl<T> SliceRandom for [T] {
     }
 }
 
-/// What goko's sampling names; sampling itself is outside document 01.
+/// What goko's sampling names; sampling itself is no part of docs/RULES.md.
 pub mod distributions {
     use super::Rng;
     use std::ops::Range;

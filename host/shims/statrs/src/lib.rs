@@ -1,6 +1,6 @@
 //! Stands for `statrs`: ln gamma and digamma are looked up in the lent tables G and D, at the
 //! index that the argument is. A look-up past the last index panics with `PastTableEnd`, one
-//! at index 0 or between whole numbers with a message, since document 01 has neither.
+//! at index 0 or between whole numbers with a message, since docs/RULES.md has neither.
 
 /// The functions by the path that goko names.
 pub mod function {
