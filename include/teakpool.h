@@ -278,17 +278,17 @@ static inline void *teakpool_nowhere(void)
 
 /* A slice that is lent: where it begins, and its length in elements. Each has a type of its own, so that one in another's place does
  * not compile. */
-#define TEAKPOOL_SLICE(name, element)                                                 \
-    struct teakpool_##name {                                                          \
-        element *at;                                                                  \
-        size_t length;                                                                \
-    };                                                                                \
+#define TEAKPOOL_SLICE(name, element)                                                     \
+    struct teakpool_##name {                                                              \
+        element *at;                                                                      \
+        size_t length;                                                                    \
+    };                                                                                    \
     static inline struct teakpool_##name teakpool_make_##name(element *at, size_t length) \
-    {                                                                                 \
-        struct teakpool_##name slice;                                                 \
-        slice.at = at != NULL ? at : (element *)teakpool_nowhere();                   \
-        slice.length = length;                                                        \
-        return slice;                                                                 \
+    {                                                                                     \
+        struct teakpool_##name slice;                                                     \
+        slice.at = at != NULL ? at : (element *)teakpool_nowhere();                       \
+        slice.length = length;                                                            \
+        return slice;                                                                     \
     }
 
 TEAKPOOL_SLICE(g, const double)         /* ln gamma */

@@ -1,5 +1,5 @@
-/* Fills tables with ln gamma and digamma at whole numbers, as teakpool.h wants them. A program that has tables of its own needs none of
- * this.
+/* Fills tables with ln gamma and digamma at whole numbers, as teakpool.h wants them. A program that has tables of its own needs none
+ * of this.
  *
  * Nothing but additions, subtractions, multiplications and divisions of doubles is used, each rounded once, and no function of the C
  * library. Every compiler that keeps to IEEE 754 gives the same bits, with fused multiply-adds or without; do not compile this with
@@ -37,7 +37,8 @@ static inline struct teakpool_pair teakpool_pair_plus(struct teakpool_pair sum, 
     return result;
 }
 
-/* 1 / n of a whole number n below 2^24. The quotient's first 24 bits times n, the others times n, and what is left of 1 are exact. */
+/* 1 / n of a whole number n below 2^24. The quotient's first 24 bits times n, the others times n, and what is left of 1, are
+ * exact. */
 static inline struct teakpool_pair teakpool_pair_inverse(double n)
 {
     struct teakpool_pair result;

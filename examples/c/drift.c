@@ -90,7 +90,8 @@ static void read_divergences(const struct teakpool_tracker *tracker, struct teak
 }
 
 /* Two good days of one path each: to (0,9), and one that ends at (1,7). */
-static void hold_against_baseline(const struct teakpool_tracker *tracker, struct teakpool_priors priors, struct teakpool_tables tables)
+static void hold_against_baseline(const struct teakpool_tracker *tracker, struct teakpool_priors priors,
+                                  struct teakpool_tables tables)
 {
     uint8_t places[2 * TEAKPOOL_PLACE_SIZE], work[ENTRIES * TEAKPOOL_ENTRY_SIZE], step[2 * TEAKPOOL_STEP_SIZE];
     uint32_t knots[1];

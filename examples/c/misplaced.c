@@ -12,23 +12,23 @@ uint32_t misplaced(struct teakpool_tracker *tracker, struct teakpool_priors prio
     priors = teakpool_make_priors(priors.nodes, priors.children);
     *tracker = teakpool_make_tracker(tracker->book, tracker->queue);
     output = teakpool_make_output(output.addresses, output.figures, output.places);
-#elif CASE == 1 /* the two tables */
+#elif CASE == 1  /* the two tables */
     tables = teakpool_make_tables(tables.d, tables.g);
-#elif CASE == 2 /* node records and child records */
+#elif CASE == 2  /* node records and child records */
     priors = teakpool_make_priors(priors.children, priors.nodes);
-#elif CASE == 3 /* book and queue */
+#elif CASE == 3  /* book and queue */
     *tracker = teakpool_make_tracker(tracker->queue, tracker->book);
-#elif CASE == 4 /* addresses and figures */
+#elif CASE == 4  /* addresses and figures */
     output = teakpool_make_output(output.figures, output.addresses, output.places);
-#elif CASE == 5 /* a table that is only read, as a book */
+#elif CASE == 5  /* a table that is only read, as a book */
     tracker->book = teakpool_make_book(tables.g.at, tables.g.length);
-#elif CASE == 6 /* records that are only read, as a book */
+#elif CASE == 6  /* records that are only read, as a book */
     tracker->book = teakpool_make_book(priors.nodes.at, priors.nodes.length);
-#elif CASE == 7 /* priors and tables */
+#elif CASE == 7  /* priors and tables */
     return teakpool_tracker_all_node_kl(tracker, tables, priors, output, list);
-#elif CASE == 8 /* an answer that nobody looks at */
+#elif CASE == 8  /* an answer that nobody looks at */
     teakpool_tracker_open(tracker, 1);
-#elif CASE == 9 /* the same of a plain function */
+#elif CASE == 9  /* the same of a plain function */
     teakpool_open(1, tracker->book.at, tracker->book.length, tracker->queue.at, tracker->queue.length, tracker->state);
 #elif CASE == 10 /* NULL where a plain function wants a slice */
     return teakpool_open(0, tracker->book.at, tracker->book.length, NULL, 0, tracker->state);

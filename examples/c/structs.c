@@ -1,5 +1,5 @@
-/* The calls over structs: each answers what its plain function answers, NULL stands for a slice of length 0, and a tracker or a baseline
- * is refused until it is opened or trained. Tables with G(k) = k * k and D(k) = 4k make every figure a whole number. */
+/* The calls over structs: each answers what its plain function answers, NULL stands for a slice of length 0, and a tracker or a
+ * baseline is refused until it is opened or trained. Tables with G(k) = k * k and D(k) = 4k make every divergence a whole number. */
 #include "teakpool.h"
 #include "bytes.h"
 
@@ -9,9 +9,9 @@
 #define LENGTH 16u
 
 static double g[LENGTH], d[LENGTH];
-static uint8_t nodes[TEAKPOOL_RECORD_SIZE], children[2 * TEAKPOOL_RECORD_SIZE];
-static uint8_t book_bytes[ENTRIES * TEAKPOOL_ENTRY_SIZE], queue_bytes[TEAKPOOL_PLACE_SIZE];
-static uint8_t path_bytes[2 * TEAKPOOL_STEP_SIZE];
+static uint8_t nodes[2 * TEAKPOOL_RECORD_SIZE], children[3 * TEAKPOOL_RECORD_SIZE];
+static uint8_t book_bytes[ENTRIES * TEAKPOOL_ENTRY_SIZE], queue_bytes[3 * TEAKPOOL_PLACE_SIZE];
+static uint8_t path_bytes[3 * TEAKPOOL_STEP_SIZE];
 static uint8_t sequence_bytes[2 * TEAKPOOL_PLACE_SIZE];
 static uint8_t trial[TEAKPOOL_PATH_ENTRIES * TEAKPOOL_ENTRY_SIZE];
 
@@ -21,14 +21,18 @@ static struct teakpool_tracker tracker;
 static struct teakpool_sequences sequences;
 static struct teakpool_address node;
 
-static struct teakpool_path path_to(uint32_t point)
+/* (1,7), (0,point), (-1,3). */
+static struct teakpool_path path_by(uint32_t point)
 {
     teakpool_put_address(path_bytes, node);
     teakpool_put_address(path_bytes + TEAKPOOL_STEP_SIZE, teakpool_make_address(0, point));
+    teakpool_put_address(path_bytes + 2 * TEAKPOOL_STEP_SIZE, teakpool_make_address(-1, 3));
     return teakpool_make_path(path_bytes, sizeof path_bytes);
 }
 
-/* Tables up to index `last`, a prior of (1,7) with singleton 1, (0,7) with 2 and (0,9) with 3, and two sequences of one path. */
+/* Tables up to index `last`; priors of (0,9) with singleton 1 and (-1,3) with 1, and of (1,7) with singleton 1, (0,7) with 2 and
+ * (0,9) with 3; and two sequences of one path. A path by (0,9) gives (1,7) a divergence of 6 and (0,9) one of 2; one that ends at
+ * (1,7) gives it 10. */
 static void lend(size_t last)
 {
     for (uint32_t k = 0; k < LENGTH; k++) {
@@ -36,11 +40,13 @@ static void lend(size_t last)
         d[k] = (double)(4 * k);
     }
     node = teakpool_make_address(1, 7);
-    teakpool_put_record(nodes, node, 1, 1);
+    teakpool_put_record(nodes, teakpool_make_address(0, 9), 1, 3);
+    teakpool_put_record(nodes + TEAKPOOL_RECORD_SIZE, node, 1, 1);
     teakpool_put_record(children, teakpool_make_address(0, 7), 2, 2);
     teakpool_put_record(children + TEAKPOOL_RECORD_SIZE, teakpool_make_address(0, 9), 3, 0);
-    teakpool_put_word(sequence_bytes, 2);
-    memcpy(sequence_bytes + 4, path_to(9).at, sizeof path_bytes);
+    teakpool_put_record(children + 2 * TEAKPOOL_RECORD_SIZE, teakpool_make_address(-1, 3), 1, 0);
+    teakpool_put_word(sequence_bytes, 3);
+    memcpy(sequence_bytes + 4, path_by(9).at, sizeof path_bytes);
     teakpool_put_word(sequence_bytes + TEAKPOOL_PLACE_SIZE, 1);
     memcpy(sequence_bytes + TEAKPOOL_PLACE_SIZE + 4, path_bytes, TEAKPOOL_STEP_SIZE);
     tables = teakpool_make_tables(teakpool_make_g(g, last + 1), teakpool_make_d(d, last + 1));
@@ -48,14 +54,19 @@ static void lend(size_t last)
     sequences = teakpool_make_sequences(sequence_bytes, sizeof sequence_bytes, 2, 1, 1);
 }
 
+/* Three paths: that by (0,point), and twice (-1,3) alone, which has no prior. */
 static void open_and_add(uint32_t point)
 {
+    struct teakpool_path path = path_by(point);
+    struct teakpool_path end = teakpool_make_path(path_bytes + 2 * TEAKPOOL_STEP_SIZE, TEAKPOOL_STEP_SIZE);
     tracker = teakpool_make_tracker(teakpool_make_book(book_bytes, sizeof book_bytes),
                                     teakpool_make_queue(queue_bytes, sizeof queue_bytes));
-    expect(teakpool_tracker_add_path(&tracker, path_to(point)) == TEAKPOOL_FORM, "an add to a tracker that is not open");
-    expect(teakpool_tracker_open(&tracker, 1) == TEAKPOOL_DONE, "an opening");
-    expect(teakpool_tracker_add_path(&tracker, path_to(point)) == TEAKPOOL_DONE, "an add");
-    expect(tracker.state[0] == 1 && tracker.state[1] == 3 && tracker.state[2] == 1, "the state after an add");
+    expect(teakpool_tracker_add_path(&tracker, path) == TEAKPOOL_FORM, "an add to a tracker that is not open");
+    expect(teakpool_tracker_open(&tracker, 3) == TEAKPOOL_DONE, "an opening");
+    expect(teakpool_tracker_add_path(&tracker, path) == TEAKPOOL_DONE, "an add");
+    expect(teakpool_tracker_add_path(&tracker, end) == TEAKPOOL_DONE, "a second add");
+    expect(teakpool_tracker_add_path(&tracker, end) == TEAKPOOL_DONE, "a third add");
+    expect(tracker.state[0] == 3 && tracker.state[1] == 5 && tracker.state[2] == 3, "the state after the adds");
 }
 
 static void checks(void)
@@ -87,37 +98,45 @@ static void vectors(void)
     expect(vector.places == 1 && vector.ending == 0.0 && figures[0] == 1.0, "all of it goes to (0,9)");
     output.places = 0;
     expect(teakpool_tracker_evidence_prob_vector(&tracker, node, output, &vector) == TEAKPOOL_OUTPUT_SHORT, "no place");
-    expect(teakpool_tracker_prob_vector(&tracker, priors, teakpool_make_address(0, 9), output, &vector) == TEAKPOOL_NONE, "no prior");
+    expect(teakpool_tracker_prob_vector(&tracker, priors, teakpool_make_address(-1, 3), output, &vector) == TEAKPOOL_NONE,
+           "no prior");
     expect(vector.places == 1, "what is not carried out leaves the answer");
 }
 
 static void divergences(void)
 {
-    uint8_t addresses[TEAKPOOL_STEP_SIZE];
-    double figures[1], value = -1.0;
+    uint8_t addresses[2 * TEAKPOOL_STEP_SIZE];
+    double figures[2], value = -1.0;
     struct teakpool_list list = {9, 9, {-5, 5}};
     struct teakpool_statistics now;
     memset(&now, 0, sizeof now);
     expect(teakpool_tracker_posterior_kl_divergence(&tracker, priors, tables, node, &value) == TEAKPOOL_DONE && value == 6.0,
            "the divergence of (1,7)");
-    expect(teakpool_tracker_all_node_kl(&tracker, priors, tables, teakpool_make_output(addresses, figures, 1), &list) == TEAKPOOL_DONE,
+    expect(teakpool_tracker_all_node_kl(&tracker, priors, tables, teakpool_make_output(addresses, figures, 1), &list) ==
+                   TEAKPOOL_OUTPUT_SHORT &&
+               list.places == 9 && list.skipped == 9,
+           "a place too few");
+    expect(teakpool_tracker_all_node_kl(&tracker, priors, tables, teakpool_make_output(addresses, figures, 2), &list) ==
+               TEAKPOOL_DONE,
            "the divergences of all nodes");
-    expect(list.places == 1 && list.skipped == 1 && list.node.scale == -5 && list.node.point == 5, "one place, one skipped, none named");
-    expect(teakpool_address_at(addresses).scale == 1 && teakpool_address_at(addresses).point == 7 && figures[0] == 6.0, "the place");
+    expect(list.places == 2 && list.skipped == 1 && list.node.scale == -5 && list.node.point == 5,
+           "two places, one skipped, none named");
+    expect(is_address(addresses, 0, 9) && is_address(addresses + 8, 1, 7) && figures[0] == 2.0 && figures[1] == 6.0, "the places");
     expect(teakpool_tracker_kl_div_stats(&tracker, priors, tables, &now) == TEAKPOOL_DONE, "the statistics");
-    expect(now.maximum == 6.0 && now.minimum == 6.0 && now.sum == 6.0 && now.sum_of_squares == 36.0, "their figures");
-    expect(now.number == 1 && now.sequence_length == 1 && now.skipped == 1, "their counts");
+    expect(now.maximum == 6.0 && now.minimum == 2.0 && now.sum == 8.0 && now.sum_of_squares == 40.0, "their figures");
+    expect(now.number == 2 && now.sequence_length == 3 && now.skipped == 1, "their counts");
 }
 
 /* What names a node leaves the rest of the answer. */
 static void named(uint32_t number, const char *what)
 {
-    uint8_t addresses[TEAKPOOL_STEP_SIZE];
-    double figures[1];
+    uint8_t addresses[2 * TEAKPOOL_STEP_SIZE];
+    double figures[2];
     struct teakpool_list list = {9, 9, {-5, 5}};
     struct teakpool_statistics now;
     memset(&now, 0, sizeof now);
-    expect(teakpool_tracker_all_node_kl(&tracker, priors, tables, teakpool_make_output(addresses, figures, 1), &list) == number, what);
+    expect(teakpool_tracker_all_node_kl(&tracker, priors, tables, teakpool_make_output(addresses, figures, 2), &list) == number,
+           what);
     expect(list.node.scale == 1 && list.node.point == 7 && list.places == 9 && list.skipped == 9, "the node in a list");
     expect(teakpool_tracker_kl_div_stats(&tracker, priors, tables, &now) == number, what);
     expect(now.node.scale == 1 && now.node.point == 7 && now.maximum == 0.0 && now.skipped == 0, "the node in statistics");
@@ -138,14 +157,14 @@ static void trials(void)
         teakpool_put_address(longest + i * TEAKPOOL_STEP_SIZE, teakpool_make_address(-1, i));
     }
     struct teakpool_path whole = teakpool_make_path(longest, sizeof longest);
-    tried(TEAKPOOL_PATH_ENTRIES, path_to(9), TEAKPOOL_DONE, 0, "a path that the prior knows");
-    tried(TEAKPOOL_PATH_ENTRIES, path_to(8), TEAKPOOL_MISSING_CHILD, 1, "a transition that it does not know");
+    tried(TEAKPOOL_PATH_ENTRIES, path_by(9), TEAKPOOL_DONE, 0, "a path that the prior knows");
+    tried(TEAKPOOL_PATH_ENTRIES, path_by(8), TEAKPOOL_MISSING_CHILD, 1, "a transition that it does not know");
     tried(TEAKPOOL_PATH_ENTRIES, whole, TEAKPOOL_DONE, 0, "the longest path of nodes without a prior");
     tried(TEAKPOOL_PATH_ENTRIES - 1, whole, TEAKPOOL_BOOK_FULL, 0, "a book too small for it");
     tried(0, whole, TEAKPOOL_FORM, 0, "no book");
     tried(TEAKPOOL_PATH_ENTRIES, teakpool_make_path(NULL, 0), TEAKPOOL_PATH_LENGTH, 0, "no path");
     lend(6);
-    tried(TEAKPOOL_PATH_ENTRIES, path_to(9), TEAKPOOL_PAST_TABLE, 1, "tables too short for prior and path");
+    tried(TEAKPOOL_PATH_ENTRIES, path_by(9), TEAKPOOL_PAST_TABLE, 1, "tables too short for prior and path");
     lend(LENGTH - 1);
 }
 
@@ -162,8 +181,10 @@ static void baselines(void)
     expect(baseline.s == 2 && baseline.count == 1 && knots[0] == 1, "one knot of two sequences");
     expect(teakpool_baseline_stats(&baseline, 1, &usual) == TEAKPOOL_DONE, "at the knot");
     expect(usual.maximum.mean == 8.0 && usual.maximum.variance == 4.0, "maxima 6 and 10");
-    expect(usual.minimum.mean == 8.0 && usual.number.mean == 1.0 && usual.number.variance == 0.0, "minimum and number");
-    expect(usual.sum.mean == 8.0 && usual.sum.variance == 4.0 && usual.sum_of_squares.mean == 68.0, "sums");
+    expect(usual.minimum.mean == 6.0 && usual.minimum.variance == 16.0, "minima 2 and 10");
+    expect(usual.number.mean == 1.5 && usual.number.variance == 0.25, "numbers 2 and 1");
+    expect(usual.sum.mean == 9.0 && usual.sum.variance == 1.0, "sums 8 and 10");
+    expect(usual.sum_of_squares.mean == 70.0 && usual.sum_of_squares.variance == 900.0, "sums of squares 40 and 100");
     expect(teakpool_baseline_stats(&baseline, 2, &usual) == TEAKPOOL_ONE_KNOT && usual.maximum.mean == 8.0, "past the only knot");
     sequences.rate = 0;
     expect(teakpool_baseline_train(&baseline, priors, tables, sequences, work_book) == TEAKPOOL_TRAINING_INPUT, "a rate of 0");
@@ -184,18 +205,20 @@ static void nothing_lent(void)
     struct teakpool_list list = {9, 9, {0, 0}};
     struct teakpool_usual usual;
     expect(teakpool_priors_check(no_priors) == TEAKPOOL_DONE, "no priors");
-    expect(teakpool_tables_check(teakpool_make_tables(teakpool_make_g(NULL, 0), teakpool_make_d(NULL, 0))) == TEAKPOOL_TABLE_LENGTHS,
+    expect(teakpool_tables_check(teakpool_make_tables(teakpool_make_g(NULL, 0), teakpool_make_d(NULL, 0))) ==
+               TEAKPOOL_TABLE_LENGTHS,
            "no tables");
     tracker = teakpool_make_tracker(teakpool_make_book(NULL, 0), teakpool_make_queue(NULL, 0));
     expect(teakpool_tracker_open(&tracker, 0) == TEAKPOOL_FORM, "no book");
     tracker = teakpool_make_tracker(teakpool_make_book(book_bytes, sizeof book_bytes), teakpool_make_queue(NULL, 0));
     expect(teakpool_tracker_open(&tracker, 0) == TEAKPOOL_DONE, "no queue");
     expect(teakpool_tracker_add_path(&tracker, teakpool_make_path(NULL, 0)) == TEAKPOOL_PATH_LENGTH, "no path");
-    expect(teakpool_tracker_add_path(&tracker, path_to(9)) == TEAKPOOL_DONE, "an add without a queue");
+    expect(teakpool_tracker_add_path(&tracker, path_by(9)) == TEAKPOOL_DONE, "an add without a queue");
     expect(teakpool_tracker_all_node_kl(&tracker, no_priors, tables, no_output, &list) == TEAKPOOL_DONE, "no output");
-    expect(list.places == 0 && list.skipped == 2, "every node is skipped");
+    expect(list.places == 0 && list.skipped == 3, "every node is skipped");
     sequences = teakpool_make_sequences(NULL, 0, 1, 0, 1);
-    expect(teakpool_baseline_train(&baseline, no_priors, tables, sequences, tracker.book) == TEAKPOOL_DONE, "a training on no paths");
+    expect(teakpool_baseline_train(&baseline, no_priors, tables, sequences, tracker.book) == TEAKPOOL_DONE,
+           "a training on no paths");
     expect(teakpool_baseline_stats(&baseline, 7, &usual) == TEAKPOOL_DONE && usual.sum.mean == 0.0, "a baseline without knots");
     lend(LENGTH - 1);
 }

@@ -1,5 +1,5 @@
-/* Holds teakpool_tables.h against recorded values of ln gamma and digamma, and all its bits against a recorded hash. The file named on
- * the command line has both; the Rust crate is held against the same file. */
+/* Holds teakpool_tables.h against recorded values of ln gamma and digamma, and all its bits against a recorded hash. The file named
+ * on the command line has both; the Rust crate is held against the same file. */
 #include "teakpool_tables.h"
 #include "bytes.h"
 
@@ -41,7 +41,8 @@ static void hold_against(FILE *recorded)
         } else if (words == 3 && first[0] != '#') {
             size_t k = strtoul(first, NULL, 10);
             values++;
-            if (k == 0 || k >= TEAKPOOL_MAX_TABLE || !is_close(g[k], strtod(second, NULL)) || !is_close(d[k], strtod(third, NULL))) {
+            if (k == 0 || k >= TEAKPOOL_MAX_TABLE || !is_close(g[k], strtod(second, NULL)) ||
+                !is_close(d[k], strtod(third, NULL))) {
                 printf("not as expected: at %s: %.17g and %.17g\n", first, g[k], d[k]);
                 failures++;
             }

@@ -1,4 +1,5 @@
-// The watch from C++11: memory in vectors, lent to the same calls. Follows two paths from (1,7) and reads how far the node has moved.
+// The watch from C++11: memory in vectors, lent to the same calls. Follows two paths from (1,7) and reads how far that node has
+// moved.
 #include "teakpool.h"
 #include "teakpool_tables.h"
 
@@ -8,7 +9,8 @@
 #include <utility>
 #include <vector>
 
-namespace {
+namespace
+{
 
 typedef std::vector<std::uint8_t> Bytes;
 
@@ -32,7 +34,7 @@ std::pair<Bytes, Bytes> prior_records()
     return std::make_pair(nodes, children);
 }
 
-// The divergence of (1,7) after a path to (0,9) and one that ends at (1,7), with the last of them counted; or a refusal as its negative.
+// The divergence of (1,7) after a path to (0,9) and one that ends at (1,7), in a window of 1; a refusal as its negative.
 double divergence()
 {
     std::vector<double> g(16), d(16);
@@ -41,8 +43,8 @@ double divergence()
     const teakpool_priors priors = teakpool_make_priors(teakpool_make_nodes(records.first.data(), records.first.size()),
                                                         teakpool_make_children(records.second.data(), records.second.size()));
     Bytes book(8 * TEAKPOOL_ENTRY_SIZE), queue(TEAKPOOL_PLACE_SIZE);
-    teakpool_tracker tracker = teakpool_make_tracker(teakpool_make_book(book.data(), book.size()),
-                                                     teakpool_make_queue(queue.data(), queue.size()));
+    teakpool_tracker tracker =
+        teakpool_make_tracker(teakpool_make_book(book.data(), book.size()), teakpool_make_queue(queue.data(), queue.size()));
     const teakpool_address node = teakpool_make_address(1, 7);
     const std::vector<Bytes> paths = {path_bytes({node, teakpool_make_address(0, 9)}), path_bytes({node})};
     double value = 0.0;
