@@ -12,7 +12,8 @@ fn main() {
     println!("cargo:rerun-if-changed=build.rs");
     println!("cargo:rerun-if-env-changed={}", VARIABLE);
     let root = Path::new(&env::var("CARGO_MANIFEST_DIR").unwrap()).join("../..");
-    let archive = env::var_os(VARIABLE).map_or_else(|| chosen(&root), PathBuf::from);
+    let named = env::var_os(VARIABLE).filter(|name| !name.is_empty());
+    let archive = named.map_or_else(|| chosen(&root), PathBuf::from);
     println!("cargo:rerun-if-changed={}", archive.display());
     let Ok(archive) = fs::canonicalize(&archive) else {
         give_up(&format!("there is no archive at {}", archive.display()));

@@ -142,6 +142,19 @@ fn path_lengths_and_windows() {
 }
 
 #[test]
+fn path_lengths_in_a_training() {
+    let kit = Kit::up_to(7);
+    let train = |steps: usize| {
+        let places = place_bytes(&vec![NINE; steps]);
+        let sequences = Sequences { s: 1, n: 1, rate: 1, places: &places };
+        let (mut book, mut knots, mut values) = ([0; 8 * ENTRY_BYTES], [0; 1], [0.0; KNOT_VALUES]);
+        Baseline::train(kit.tables(), kit.priors(), sequences, &mut book, &mut knots, &mut values).map(|_| ())
+    };
+    assert_eq!((train(0), train(65)), (Err(Refusal::PathLength), Err(Refusal::PathLength)));
+    assert_eq!((train(1), train(64)), (Ok(()), Ok(())));
+}
+
+#[test]
 fn paths_as_bytes() {
     let (mut book, mut other) = ([0; 8 * ENTRY_BYTES], [0; 8 * ENTRY_BYTES]);
     let path = path_bytes(&[NODE, NINE, NODE]);
