@@ -183,33 +183,28 @@ mod tests {
     use crate::Address;
     use std::format;
     use std::string::ToString;
+    use std::vec::Vec;
 
-    /// The last column of the rules' table, from 1 to 18.
-    const TABLE: [&str; 18] = [
-        "lengths unequal, under 2 or over 1,048,576",
-        "an entry from index 1 on not within -2^40 to 2^40",
-        "bytes no multiple of 16; over 4,096 nodes or 16,384 children",
-        "nodes not strictly ascending",
-        "link past the last record or not rising; chain over 64",
-        "chain not strictly ascending",
-        "child count 0, or node total 0",
-        "window asked of an opening over 1,024",
-        "book no multiple of 24, empty or over 16,384 entries; queue under 516 × window bytes; form broken",
-        "path not 1 to 64 whole steps",
-        "16,777,216 paths accepted",
-        "listed nodes plus transitions would exceed capacity",
-        "output holds fewer places than the answer",
-        "evidence child, zero count included, not in the prior",
-        "U past the last table index",
-        "rate 0; s, n or byte count wrong; over 1,024 knots",
-        "s not 1 to 64; knots not rising or over 1,024; values not ten a knot",
-        "one knot and a length past it",
-    ];
+    const RULES: &str = include_str!("../../../docs/RULES.md");
+
+    /// The rows of the rules' table: a number and when it is given. That 14 and 15 name a node is no
+    /// part of their wording.
+    fn table() -> impl Iterator<Item = (u32, &'static str)> {
+        RULES.lines().filter_map(|line| {
+            let cells: Vec<&str> = line.trim_matches('|').split('|').map(str::trim).collect();
+            match cells[..] {
+                [number, _, when, _] => {
+                    Some((number.parse().ok()?, when.trim_end_matches("; names the node")))
+                }
+                _ => None,
+            }
+        })
+    }
 
     #[test]
     fn every_number_has_the_tables_words() {
         let node = Address::new(-1, 7);
-        for (number, when) in (1..).zip(TABLE) {
+        for (number, when) in table() {
             let refusal = Refusal::of(number, node);
             assert_eq!(refusal.number(), number);
             assert_eq!(refusal.wording(), when, "{}", number);
@@ -220,6 +215,7 @@ mod tests {
             assert_eq!(refusal.node(), named, "{}", number);
             assert_eq!(refusal.to_string(), format!("refusal {}: {}{}", number, when, end));
         }
+        assert!(table().map(|(number, _)| number).eq(1..=18));
     }
 
     #[test]
