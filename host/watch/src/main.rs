@@ -4,14 +4,17 @@
 //!
 //!     watch FILE
 
+mod checks;
 mod day;
 mod gamma;
+mod mistakes;
 mod progress;
+mod reader;
 mod refused;
 mod report;
 mod work;
 
-use std::io::Write;
+use std::io::{Read, Write};
 use std::process::ExitCode;
 
 fn main() -> ExitCode {
@@ -20,8 +23,8 @@ fn main() -> ExitCode {
         [word] if word == "--help" || word == "-h" => show(&format!("usage: watch FILE\n\n{}", day::FORMAT)),
         [file] => match watch(file) {
             Ok(text) => show(&text),
-            Err(text) => {
-                eprintln!("{}: {}", file, text);
+            Err(lines) => {
+                lines.iter().for_each(|line| eprintln!("{}: {}", file, line));
                 ExitCode::FAILURE
             }
         },
@@ -43,9 +46,21 @@ fn show(text: &str) -> ExitCode {
     }
 }
 
-fn watch(file: &str) -> Result<String, String> {
-    let bytes = std::fs::read(file).map_err(|error| format!("cannot be read: {}", error))?;
-    let day = day::read(&bytes).map_err(|problem| problem.to_string())?;
-    let watched = work::watch(&day).map_err(|problem| problem.to_string())?;
+/// The report, or a line for each mistake. The file '-' is standard input.
+fn watch(file: &str) -> Result<String, Vec<String>> {
+    let bytes = input(file).map_err(|error| vec![format!("cannot be read: {}", error)])?;
+    let day = reader::read(&bytes).map_err(|mistakes| mistakes.lines())?;
+    let watched = work::watch(&day).map_err(|problem| vec![problem.to_string()])?;
     Ok(report::report(file, &day, &watched))
+}
+
+fn input(file: &str) -> std::io::Result<Vec<u8>> {
+    match file {
+        "-" => {
+            let mut bytes = Vec::new();
+            std::io::stdin().read_to_end(&mut bytes)?;
+            Ok(bytes)
+        }
+        file => std::fs::read(file),
+    }
 }

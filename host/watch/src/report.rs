@@ -110,7 +110,7 @@ fn drift(text: &mut String, day: &Day, watched: &Watched) -> Written {
 fn stretch_text(text: &mut String, day: &Day, stretch: &Stretch) -> Written {
     let at = |index: usize| {
         let mark = day.mark_at(index).map(|mark| format!(", {}", mark)).unwrap_or_default();
-        format!("path {} (line {}{})", index + 1, day.paths[index].line, mark)
+        format!("path {} (line {}{})", index + 1, day.paths.line(index), mark)
     };
     match stretch.first == stretch.last {
         true => writeln!(text, "  at {}", at(stretch.first))?,

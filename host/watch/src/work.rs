@@ -1,8 +1,9 @@
 //! Runs a day through the archive: trains the baseline, adds the paths one by one, reads the
 //! statistics after each and holds them against the baseline, and notes where they drift.
 
-use crate::day::{Day, Path, Problem, TableRule, MAX_ENTRIES, MAX_LAST};
+use crate::day::{Day, Paths, TableRule, MAX_ENTRIES};
 use crate::gamma;
+use crate::mistakes::Problem;
 use crate::progress::{during, Steps};
 use crate::refused::told;
 use teakpool::{
@@ -71,7 +72,9 @@ struct LentParts {
 impl LentParts {
     fn of(day: &Day) -> LentParts {
         let (g, d) = match &day.tables {
-            TableRule::Gamma => gamma::tables(day.last_index().clamp(1, MAX_LAST as u64) as usize),
+            TableRule::Gamma => {
+                gamma::tables(day.greatest_index().clamp(1, day.tables.last_index()) as usize)
+            }
             TableRule::Squares(last) => (0..=*last).map(|k| ((k * k) as f64, (4 * k) as f64)).unzip(),
             TableRule::Numbers { g, d } => (g.values.clone(), d.values.clone()),
         };
@@ -100,9 +103,8 @@ impl LentParts {
 /// Runs the day; a refusal is told with the line to look at.
 pub fn watch(day: &Day) -> Result<Watched, Problem> {
     let lent = LentParts::of(day);
-    let told_at = |path| told(day, lent.last_index(), path);
-    let (first, last) = day.paths.first().zip(day.paths.last()).expect("the reader wants a path");
-    let capacity = day.capacity.map_or_else(|| day.entries().min(MAX_ENTRIES), |capacity| capacity.value);
+    let told_at = |index| told(day, lent.last_index(), day.paths.line(index));
+    let capacity = day.capacity.map_or(MAX_ENTRIES, |capacity| capacity.value);
     let mut book = vec![0; ENTRY_BYTES * capacity];
     let (mut knots, mut values) = (vec![0; 1_024], vec![0.0; KNOT_VALUES * 1_024]);
     let baseline = train(day, &lent, &mut book, &mut knots, &mut values)?;
@@ -119,15 +121,15 @@ pub fn watch(day: &Day) -> Result<Watched, Problem> {
         skipped: 0,
     };
     let mut queue = vec![0; PLACE_BYTES * day.window as usize];
-    let mut tracker = Tracker::open(day.window, &mut book, &mut queue).map_err(told_at(first))?;
+    let mut tracker = Tracker::open(day.window, &mut book, &mut queue).map_err(told_at(0))?;
     let mut steps = Steps::new("the day's paths", day.paths.len());
     for (index, path) in day.paths.iter().enumerate() {
-        tracker.add_path(&path_bytes(&path.steps)).map_err(told_at(path))?;
-        let reading = read(&tracker, &lent, baseline).map_err(told_at(path))?;
+        tracker.add_path(&path_bytes(path)).map_err(told_at(index))?;
+        let reading = read(&tracker, &lent, baseline).map_err(told_at(index))?;
         if let Some(deviations) = reading.deviations.filter(|deviations| *deviations > day.drift) {
             let worse = note(&mut watched.stretches, index, deviations);
             if worse {
-                let moved = moved_nodes(&tracker, &lent, day).map_err(told_at(path))?.0;
+                let moved = moved_nodes(&tracker, &lent, day).map_err(told_at(index))?.0;
                 let most = moved.into_iter().max_by(|one, other| one.divergence.total_cmp(&other.divergence));
                 watched.stretches.last_mut().expect("one was noted").moved = most;
             }
@@ -135,7 +137,8 @@ pub fn watch(day: &Day) -> Result<Watched, Problem> {
         watched.readings.push(reading);
         steps.at(index + 1);
     }
-    (watched.nodes, watched.skipped) = moved_nodes(&tracker, &lent, day).map_err(told_at(last))?;
+    (watched.nodes, watched.skipped) =
+        moved_nodes(&tracker, &lent, day).map_err(told_at(day.paths.len() - 1))?;
     Ok(watched)
 }
 
@@ -147,12 +150,11 @@ fn train<'a>(
     knots: &'a mut [u32],
     values: &'a mut [f64],
 ) -> Result<Option<Baseline<'a>>, Problem> {
-    let n = day.sequences.first().map_or(0, Vec::len);
+    let n = day.training_paths();
     if n == 0 {
         return Ok(None);
     }
-    let place = |path: &Path| place_bytes(&path.steps);
-    let places: Vec<u8> = day.sequences.iter().flatten().flat_map(place).collect();
+    let places: Vec<u8> = day.sequences.iter().flat_map(Paths::iter).flat_map(place_bytes).collect();
     let rate = day.rate.map_or((n as u32 / 8).max(1), |rate| rate.value);
     let sequences = Sequences { s: day.sequences.len() as u32, n: n as u32, rate, places: &places };
     let trained = during("the training", || {
@@ -165,14 +167,15 @@ fn train<'a>(
 /// A training tells no path, so its steps are taken again one by one, up to the one that is
 /// refused.
 fn where_stopped(day: &Day, lent: &LentParts, book: &mut [u8], rate: u32, stopped: Refusal) -> Problem {
-    let told_at = |path| told(day, lent.last_index(), path);
-    let first = day.sequences.iter().flatten().next().expect("there is something to train with");
+    let told_at = |line| told(day, lent.last_index(), line);
+    let first = day.sequences[0].line(0);
     let again = day.sequences.iter().try_for_each(|sequence| {
         let mut tracker = Tracker::open(0, book, &mut []).map_err(told_at(first))?;
-        sequence.iter().zip(0_u32..).try_for_each(|(path, index)| {
-            tracker.add_path(&path_bytes(&path.steps)).map_err(told_at(path))?;
-            if index % rate == 0 {
-                tracker.kl_div_stats(lent.tables(), lent.priors()).map_err(told_at(path))?;
+        sequence.iter().enumerate().try_for_each(|(index, path)| {
+            let line = sequence.line(index);
+            tracker.add_path(&path_bytes(path)).map_err(told_at(line))?;
+            if index % rate as usize == 0 {
+                tracker.kl_div_stats(lent.tables(), lent.priors()).map_err(told_at(line))?;
             }
             Ok(())
         })
@@ -261,7 +264,8 @@ fn most_moved(tracker: &Tracker, day: &Day, node: Address) -> Result<Option<Shar
 #[cfg(test)]
 mod tests {
     use super::watch;
-    use crate::day::{read, Problem};
+    use crate::mistakes::Problem;
+    use crate::reader::read;
 
     fn outcome(text: &str) -> Result<(), (usize, String)> {
         let day = read(text.as_bytes()).expect("every line can be taken");
@@ -300,16 +304,6 @@ mod tests {
         // With this rate the second path of a sequence is not read, the third is.
         assert_eq!(problem(&training(2)).0, 11);
         assert_eq!(outcome(&training(3)), Ok(()));
-    }
-
-    #[test]
-    fn a_prior_past_the_tables() {
-        let prior = "prior 0/1 1\nprior 0/2 2000000\n";
-        let text = "the counts of this prior come to 2000000, and the last index of the tables is 1048575";
-        assert_eq!(problem(&format!("{}day\npath 0/1\npath 0/2", prior)), (2, text.to_string()));
-        assert_eq!(problem(&format!("{}sequence\npath 0/2\nday\npath 0/1", prior)), (2, text.to_string()));
-        assert_eq!(outcome(&format!("{}day\npath 0/1", prior)), Ok(()));
-        assert_eq!(problem("tables numbers\ng 0 0\nd 0 0\nprior 0/1 1\nday\npath 0/1").0, 4);
     }
 
     #[test]
