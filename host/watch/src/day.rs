@@ -152,19 +152,6 @@ impl Day {
         self.sequences.first().map_or(0, Paths::len)
     }
 
-    /// The greatest index that a table is read at.
-    pub fn greatest_index(&self) -> u64 {
-        let greatest = |paths: &Paths| {
-            let mut seen: BTreeMap<Address, u64> = BTreeMap::new();
-            for step in paths.iter().flatten() {
-                *seen.entry(*step).or_default() += 1;
-            }
-            let u = |(node, prior): (&Address, &Prior)| prior.total() + seen.get(node).unwrap_or(&0);
-            self.priors.iter().map(u).max().unwrap_or(1)
-        };
-        self.sequences.iter().chain([&self.paths]).map(greatest).max().unwrap_or(1)
-    }
-
     /// The mark that the path with this index stands under.
     pub fn mark_at(&self, path: usize) -> Option<&str> {
         let after = self.marks.partition_point(|(at, _)| *at <= path);

@@ -62,13 +62,34 @@ fn a_dash_is_standard_input() {
     assert_eq!(without_name(&String::from_utf8_lossy(&piped.stdout)), without_name(&output));
 }
 
+/// Priors, two training sequences that differ, and a day.
+fn trained(day: &str) -> String {
+    let sequences = "sequence\npath 1/7 0/7\npath 1/7\nsequence\npath 1/7 0/9\npath 1/7 0/9\n";
+    format!("prior 1/7 1 0/7 2 0/9 3\n{}day\n{}", sequences, day)
+}
+
+#[test]
+fn the_exit_status_tells_drift_and_what_is_not_judged() {
+    let status = |name: &str, text: &str| watch(&[&file(name, text.as_bytes())]).0;
+    assert_eq!(status("calm", &trained("path 1/7 0/7\n")), Some(0));
+    assert_eq!(status("drift", &format!("drift 0\n{}", trained("path 1/7 0/7\npath 1/7 0/7\n"))), Some(3));
+    assert_eq!(status("never_seen", &trained("path 1/7 0/8\n")), Some(3));
+    assert_eq!(status("far", &trained(&"path 1/7 0/7\npath 1/7 0/9\n".repeat(9))), Some(4));
+    assert_eq!(status("untrained", "day\npath 1/7\n"), Some(4));
+    assert_eq!(status("mistake", "day\n"), Some(1));
+    assert_eq!(watch(&["../../days/example.txt"]).0, Some(3));
+}
+
 #[test]
 fn a_missing_file_and_wrong_arguments() {
     let (status, _, errors) = watch(&["none/none"]);
     assert_eq!(status, Some(1));
     assert!(errors.starts_with("none/none: cannot be read: "), "{}", errors);
     assert_eq!(watch(&[]).0, Some(2));
+    assert_eq!(watch(&["one", "two"]).0, Some(2));
+    let (status, _, errors) = watch(&["--htlm", "page", "day"]);
+    assert_eq!((status, &errors[..]), (Some(2), "'--htlm' is no option; ./run --help tells more\n"));
     let (status, output, _) = watch(&["--help"]);
     assert_eq!(status, Some(0));
-    assert!(output.ends_with(include_str!("../src/format.txt")));
+    assert_eq!(output, [include_str!("../src/usage.txt"), include_str!("../src/format.txt")].join("\n"));
 }
