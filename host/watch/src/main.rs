@@ -3,8 +3,10 @@
 //! the statistics beside the baseline. `usage.txt` has the arguments and the exit statuses.
 
 mod arguments;
+mod chart;
 mod checks;
 mod counts;
+mod csv;
 mod day;
 mod gamma;
 mod known;
@@ -13,6 +15,8 @@ mod lent;
 mod made_up;
 mod mistakes;
 mod moved;
+mod page;
+mod priors;
 mod progress;
 mod reader;
 mod refused;
@@ -26,7 +30,8 @@ mod work;
 
 use arguments::Command;
 use day::Day;
-use std::io::{Read, Write};
+use std::fs::File;
+use std::io::{BufWriter, Read, Write};
 use std::process::ExitCode;
 use watched::{Verdict, Watched};
 
@@ -42,12 +47,9 @@ fn main() -> ExitCode {
     let words: Vec<String> = std::env::args().skip(1).collect();
     let status = match arguments::command(&words) {
         Ok(Command::Help) => show(&format!("{}\n{}", USAGE, day::FORMAT), DONE),
-        Ok(Command::Watch { day, .. }) => watch(&day),
-        Ok(Command::Priors { .. }) => MISUSE,
-        Err(mistake) => {
-            eprintln!("{}; ./run --help tells more", mistake);
-            MISUSE
-        }
+        Ok(Command::Watch { day, html, csv }) => watch(&day, html.as_deref(), csv.as_deref()),
+        Ok(Command::Priors { days }) => priors(&days),
+        Err(mistake) => misuse(&mistake),
     };
     ExitCode::from(status)
 }
@@ -63,12 +65,68 @@ fn show(text: &str, status: u8) -> u8 {
     }
 }
 
-/// Prints the report of a day, or a line for each mistake in its file.
-fn watch(file: &str) -> u8 {
-    match watched(file) {
-        Ok((day, watched)) => show(&report::report(name(file), &day, &watched), status(watched.verdict())),
-        Err(lines) => mistakes(file, &lines),
+/// Writes what is asked for and prints the report of a day, or a line for each mistake in its file.
+fn watch(file: &str, html: Option<&str>, csv: Option<&str>) -> u8 {
+    let outputs: Vec<&str> = html.into_iter().chain(csv).collect();
+    if outputs.contains(&"-") {
+        return misuse("standard output has the report; --html and --csv want files");
     }
+    let all: Vec<&str> = outputs.iter().copied().chain([file]).collect();
+    if let Some(twice) =
+        all.iter().enumerate().find(|(at, one)| all[..*at].iter().any(|other| same(one, other)))
+    {
+        return misuse(&format!("{} would be written over", twice.1));
+    }
+    let (day, watched) = match watched(file) {
+        Ok(read) => read,
+        Err(lines) => return mistakes(file, &lines),
+    };
+    let mut result = status(watched.verdict());
+    if let Some(html) = html {
+        let page = page::page(name(file), &day, &watched);
+        result = written(html, |out| out.write_all(page.as_bytes())).unwrap_or(result);
+    }
+    if let Some(csv) = csv {
+        result = written(csv, |out| csv::write(out, &day, &watched)).unwrap_or(result);
+    }
+    show(&report::report(name(file), &day, &watched), result)
+}
+
+/// True where two names are one file.
+fn same(one: &str, other: &str) -> bool {
+    let place = |file: &str| std::fs::canonicalize(file).ok();
+    one == other || place(one).is_some_and(|one| place(other) == Some(one))
+}
+
+/// Writes a file; the status where that fails.
+fn written(file: &str, write: impl FnOnce(&mut BufWriter<File>) -> std::io::Result<()>) -> Option<u8> {
+    let result = File::create(file).map(BufWriter::new).and_then(|mut out| {
+        write(&mut out)?;
+        out.flush()
+    });
+    result.err().map(|error| mistakes(file, &[format!("cannot be written: {}", error)]))
+}
+
+/// Prints the priors of good days, or a line for each mistake.
+fn priors(files: &[String]) -> u8 {
+    let (mut good, mut result) = (priors::GoodDays::default(), DONE);
+    for file in files {
+        let bytes = input(file).map_err(|error| vec![format!("cannot be read: {}", error)]);
+        match bytes.and_then(|bytes| reader::read_paths(&bytes).map_err(|mistakes| mistakes.lines())) {
+            Ok(day) => good.add(&day),
+            Err(lines) => result = mistakes(file, &lines),
+        }
+    }
+    match good.lines() {
+        _ if result != DONE => result,
+        Ok(text) => show(&text, DONE),
+        Err(lines) => mistakes("priors", &lines),
+    }
+}
+
+fn misuse(mistake: &str) -> u8 {
+    eprintln!("{}; ./run --help tells more", mistake);
+    MISUSE
 }
 
 /// Reads a day and runs it; else a line for each mistake.

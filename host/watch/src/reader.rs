@@ -29,6 +29,11 @@ pub fn read(bytes: &[u8]) -> Result<Day, Mistakes> {
     reader.done()
 }
 
+/// Reads a day's lines alone, for those who want its paths and nothing else.
+pub fn read_paths(bytes: &[u8]) -> Result<Day, Mistakes> {
+    lines_of(bytes).done()
+}
+
 /// Where a path line belongs.
 #[derive(PartialEq)]
 enum Section {

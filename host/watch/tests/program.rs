@@ -93,3 +93,28 @@ fn a_missing_file_and_wrong_arguments() {
     assert_eq!(status, Some(0));
     assert_eq!(output, [include_str!("../src/usage.txt"), include_str!("../src/format.txt")].join("\n"));
 }
+
+#[test]
+fn priors_are_made_of_good_days_and_can_be_read() {
+    let monday = file("monday", b"day\npath 1/7 0/7\npath 1/7\n");
+    let tuesday = file("tuesday", b"day\npath 1/7 0/9\npath 1/7 0/7\n");
+    let (status, priors, _) = watch(&["priors", &monday, &tuesday]);
+    assert_eq!(status, Some(0));
+    let lines = "# Priors by the counts of 4 paths; good days: 2\nprior 0/7 2\nprior 0/9 1\nprior 1/7 1  0/7 2  0/9 1\n";
+    assert_eq!(priors, lines);
+    // What they do not have is a finding.
+    let day = file("priors_day", format!("{}day\npath 1/7 0/8\n", priors).as_bytes());
+    let (status, report, _) = watch(&[&day]);
+    assert_eq!(status, Some(3));
+    assert!(report.contains("1/7 goes on to 0/8, which its prior does not have"), "{}", report);
+    // The mistakes of all files are told.
+    let wrong = file("wrong", b"day\npath 1/7 x\n");
+    let (status, output, errors) = watch(&["priors", &wrong, &monday, "none/none"]);
+    assert_eq!((status, &output[..]), (Some(1), ""));
+    assert_eq!(errors.lines().count(), 2, "{}", errors);
+    let many: String = (0..65).map(|point| format!("path 1/0 0/{}\n", point)).collect();
+    let wide = file("wide", format!("day\n{}", many).as_bytes());
+    let (status, _, errors) = watch(&["priors", &wide]);
+    assert_eq!(status, Some(1));
+    assert_eq!(errors, "priors: 1/0 goes on to 65 children; a prior has at most 64\n");
+}
