@@ -5,6 +5,7 @@
 use crate::day::Day;
 use crate::usual::{spread, Usual};
 use crate::watched::{Judged, LeftOut, Place, Reading, Watched};
+use crate::words::NO_FIGURE;
 use std::fmt::Write;
 use teakpool::{BaselineStats, MeanVariance};
 
@@ -210,7 +211,7 @@ impl Frame<'_> {
             let point = Point {
                 x: self.x(index),
                 value,
-                mean: known.map(|known| known.mean).filter(|mean| mean.abs() < 1.0e300),
+                mean: known.map(|known| known.mean).filter(|mean| mean.abs() < NO_FIGURE),
                 reach: judged.and_then(spread).map(|spread| self.day.drift * spread),
             };
             match points.last_mut().filter(|(column, _)| *column == self.column(index)) {
@@ -354,10 +355,13 @@ impl Frame<'_> {
     }
 }
 
-/// The greatest value or limit of the points.
+/// What the axis has to reach: the greatest value and mean, and the limits, unless these lie so
+/// high that nothing else could be seen.
 fn most_of(points: &[Point]) -> f64 {
-    let most = |point: &Point| point.value.max(point.mean.unwrap_or(0.0) + point.reach.unwrap_or(0.0));
-    points.iter().map(most).fold(0.0, f64::max)
+    let greatest = |of: fn(&Point) -> f64| points.iter().map(of).fold(0.0, f64::max);
+    let values = greatest(|point| point.value.max(point.mean.unwrap_or(0.0)));
+    let limits = greatest(|point| point.mean.unwrap_or(0.0) + point.reach.unwrap_or(0.0));
+    values.max(limits.min(2.0 * values))
 }
 
 /// A step of 1, 2 or 5 times a power of ten, of which about `ticks` reach `most`.

@@ -4,6 +4,7 @@
 use crate::day::Day;
 use crate::usual::{spread, Held, Usual, Why};
 use crate::watched::{Judged, LeftOut, Place, Reading, Watched};
+use crate::words::NO_FIGURE;
 use std::io::{Result, Write};
 use teakpool::MeanVariance;
 
@@ -53,7 +54,7 @@ fn figures(reading: &Reading, usual: Usual) -> String {
 
 /// A number, or nothing where there is none.
 fn number(value: Option<f64>) -> String {
-    let known = value.filter(|value| value.is_finite() && value.abs() < 1.0e300);
+    let known = value.filter(|value| value.abs() < NO_FIGURE);
     known.map_or(String::new(), |value| value.to_string())
 }
 

@@ -9,6 +9,8 @@ mod counts;
 mod csv;
 mod day;
 mod gamma;
+#[cfg(test)]
+mod generated;
 mod known;
 mod lent;
 #[cfg(test)]

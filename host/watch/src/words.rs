@@ -12,6 +12,8 @@ use teakpool::{Address, BaselineStats, MeanVariance};
 
 /// Stretches, findings and parts that are shown; more are counted.
 pub const SHOWN: usize = 20;
+/// No figure is as great; f64::MIN and f64::MAX stand for none.
+pub const NO_FIGURE: f64 = 1.0e300;
 /// Training sequences below which the spread is called rough.
 const FEW_SEQUENCES: u32 = 8;
 
@@ -300,7 +302,7 @@ pub fn percent(share: f64) -> String {
 /// A figure; what is no figure is a dash.
 pub fn figure(value: f64) -> String {
     match value {
-        value if !value.is_finite() || value.abs() >= 1.0e300 => "-".to_string(),
+        value if value.is_nan() || value.abs() >= NO_FIGURE => "-".to_string(),
         value if value != 0.0 && (value.abs() < 0.001 || value.abs() >= 1.0e6) => format!("{:.2e}", value),
         value => format!("{:.3}", value),
     }
@@ -360,7 +362,9 @@ pub fn statistics(watched: &Watched, reading: &Reading) -> [[String; 5]; 5] {
     let row = |name: &str, value: f64, of: fn(&BaselineStats) -> MeanVariance| {
         let known = usual.figures.as_ref().map(of);
         let (mean, variance) = known.map_or((f64::NAN, f64::NAN), |known| (known.mean, known.variance));
-        let held = known.filter(|_| usual.unusable.is_none()).map(|known| hold(value, known));
+        // Without divergences maximum and minimum are no figures.
+        let usable = usual.unusable.is_none() && value.abs() < NO_FIGURE;
+        let held = known.filter(|_| usable).map(|known| hold(value, known));
         let above = deviations(held.and_then(Held::deviations));
         [name.to_string(), figure(value), figure(mean), figure(variance), above]
     };
