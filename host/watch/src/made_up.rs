@@ -172,25 +172,36 @@ fn good_days_are_not_told_as_drift_more_often_past_the_last_knot() {
     }
 }
 
-/// The table of docs/REPORT.md: of 150 days, how many are told as drift, by deviations, sequences
-/// and how often a step sticks. Run by name:
+/// The greatest deviations of a day's stretches, 0 without any.
+fn most(watched: &Watched) -> f64 {
+    watched.stretches.iter().map(|stretch| stretch.deviations).fold(0.0, f64::max)
+}
+
+/// The tables of docs/REPORT.md: of 150 days, how many are told as drift, by how often a step
+/// sticks, by training sequences and by deviations; last, how many go further than a training
+/// sequence. Run by name:
 ///
 ///     cargo test --release --offline -p watch -- --ignored --nocapture how_many_days
 #[test]
-#[ignore = "it makes a table and tests nothing"]
+#[ignore = "it makes tables and tests nothing"]
 fn how_many_days_are_told_as_drift() {
     let levels = [3.0, 4.0, 6.0, 8.0, 10.0];
-    println!("sticks, sequences: days of 150 above {:?} deviations", levels);
+    println!("sticks, sequences: days of 150 above {:?} deviations, and above the training", levels);
     for sticks in [0, 15, 30, 60] {
         for sequences in [2, 3, 8, 16, 32, 64] {
-            let mut told = [0; 5];
+            let (mut told, mut further) = ([0; 5], 0);
             for seed in 0..150 {
                 let plan = Plan { sequences, window: 40, sticks, ..GROSS };
                 let (_, watched) = watched(plan, seed);
-                let most = watched.stretches.iter().map(|stretch| stretch.deviations).fold(0.0, f64::max);
-                (0..5).for_each(|place| told[place] += usize::from(most > levels[place]));
+                (0..5).for_each(|place| told[place] += usize::from(most(&watched) > levels[place]));
+                let others = watched.trained.as_ref().and_then(|trained| trained.others);
+                further += usize::from(others.is_some_and(|others| most(&watched) > others.most));
             }
-            println!("{:>2} {:>2}: {:?}", sticks, sequences, told);
+            println!("{:>2} {:>2}: {:?} {}", sticks, sequences, told, further);
         }
     }
+    println!("sequences: readings of 100 on good days, up to the last knot, 2, 4 and 8 times its length");
+    [2, 3, 8, 16, 32, 64]
+        .into_iter()
+        .for_each(|sequences| println!("{:>2}: {:?}", sequences, alarms(sequences)));
 }

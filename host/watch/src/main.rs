@@ -17,6 +17,7 @@ mod lent;
 mod made_up;
 mod mistakes;
 mod moved;
+mod others;
 mod page;
 mod priors;
 mod progress;

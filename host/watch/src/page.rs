@@ -70,7 +70,6 @@ fn head(name: &str, day: &Day, watched: &Watched) -> String {
         Verdict::Drift => "drifts",
         Verdict::NotAllJudged => "open",
     };
-    let facts = [words::paths(day), words::baseline(watched), words::judged(watched)];
     let warnings: Vec<String> =
         words::warnings(day, watched).iter().map(|warning| format!("warning: {}", warning)).collect();
     format!(
@@ -78,7 +77,7 @@ fn head(name: &str, day: &Day, watched: &Watched) -> String {
         class,
         escaped(name),
         escaped(&heading(words::verdict(watched.verdict()))),
-        list("facts", &facts),
+        list("facts", &words::facts(day, watched)),
         list("warnings", &warnings)
     )
 }
@@ -142,8 +141,10 @@ fn drift(day: &Day, watched: &Watched) -> String {
     }
     let (shown, more) = worst(&watched.stretches);
     for stretch in shown {
-        let lines: String =
-            words::stretch(day, stretch).iter().map(|line| format!("<p>{}</p>\n", escaped(line))).collect();
+        let lines: String = words::stretch(day, watched, stretch)
+            .iter()
+            .map(|line| format!("<p>{}</p>\n", escaped(line)))
+            .collect();
         let bars = stretch.moved.as_ref().map(|moved| bars(day, moved)).unwrap_or_default();
         text.push_str(&format!("<article>\n{}{}</article>\n", lines, bars));
     }

@@ -109,6 +109,8 @@ impl GoodDays {
 mod tests {
     use super::GoodDays;
     use crate::reader::{read, read_paths};
+    use std::collections::BTreeMap;
+    use teakpool::{Address, PriorRecords};
 
     fn lines(days: &[&str]) -> Result<String, Vec<String>> {
         let mut good = GoodDays::default();
@@ -149,5 +151,80 @@ mod tests {
         let many: String = (0..4_097).map(|point| format!("path 1/{}\n", point)).collect();
         let told = vec!["the paths have 4097 nodes; priors have at most 4096".to_string()];
         assert_eq!(lines(&[&format!("day\n{}", many)]), Err(told));
+    }
+
+    /// docs/PRIORS.md, its rows of a table of so many columns, and the lines of its block.
+    const PAGE: &str = include_str!("../../../docs/PRIORS.md");
+
+    fn rows(columns: usize) -> Vec<Vec<&'static str>> {
+        let cells = |line: &'static str| -> Vec<&'static str> {
+            line.trim_matches('|').split('|').map(str::trim).collect()
+        };
+        let rows = PAGE.lines().filter(|line| line.starts_with('|')).map(cells);
+        rows.filter(|row| row.len() == columns && row[0].contains('/')).collect()
+    }
+
+    fn block() -> String {
+        PAGE.lines()
+            .filter_map(|line| line.strip_prefix("    prior "))
+            .map(|line| format!("prior {}\n", line))
+            .collect()
+    }
+
+    fn address(text: &str) -> Address {
+        let (scale, point) = text.split_once('/').expect("an address");
+        Address::new(scale.parse().expect("a scale"), point.parse().expect("a point"))
+    }
+
+    /// goko's `node_component` over the page's tree: endings and children of a node.
+    fn component(tree: &[Vec<&str>], node: Address) -> Option<(u32, BTreeMap<Address, u32>)> {
+        let row = tree.iter().find(|row| address(row[0]) == node)?;
+        let singletons: u32 = row[2].parse().expect("a number");
+        if row[1] == "leaf" {
+            return Some((singletons + 1, BTreeMap::new()));
+        }
+        let nested = Address::new(row[3].parse().expect("a scale"), node.point);
+        let mut children = BTreeMap::new();
+        for child in row[4].split_whitespace().map(address).chain([nested]) {
+            if let Some((ends, below)) = component(tree, child) {
+                *children.entry(child).or_default() += ends + below.values().sum::<u32>();
+            }
+        }
+        Some((singletons, children))
+    }
+
+    #[test]
+    fn the_lines_of_the_page_are_those_of_its_tree() {
+        let tree = rows(5);
+        assert_eq!(tree.len(), 5);
+        let day = read(format!("{}day\npath 2/0", block()).as_bytes()).expect("the lines can be read");
+        assert_eq!(day.priors.len(), 5);
+        for (node, prior) in &day.priors {
+            let (ends, children) = component(&tree, *node).expect("it is in the tree");
+            assert_eq!((prior.ends, &prior.children), (ends, &children), "{}", node);
+        }
+    }
+
+    #[test]
+    fn the_records_of_the_page_are_those_of_its_lines() {
+        let day = read(format!("{}day\npath 2/0", block()).as_bytes()).expect("the lines can be read");
+        let mut records = PriorRecords::default();
+        for (node, prior) in &day.priors {
+            let children: Vec<(Address, u32)> = prior.children.clone().into_iter().collect();
+            records.node(*node, prior.ends, &children);
+        }
+        assert_eq!(records.lent().check(), Ok(()));
+        let record = |at: &str, count: &str, link: &str| {
+            let number = |text: &str| text.parse::<u32>().expect("a number").to_le_bytes();
+            [&address(at).bytes()[..], &number(count), &number(link)].concat()
+        };
+        let (mut nodes, mut children) = (Vec::new(), Vec::new());
+        for row in rows(7) {
+            nodes.extend(record(row[0], row[1], row[2]));
+            if let Some((_, child)) = row[4].split_once(": ") {
+                children.extend(record(child, row[5], row[6]));
+            }
+        }
+        assert_eq!((records.lent().nodes, records.lent().children), (&nodes[..], &children[..]));
     }
 }

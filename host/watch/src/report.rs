@@ -28,9 +28,9 @@ type Written = std::fmt::Result;
 
 fn head(text: &mut String, name: &str, day: &Day, watched: &Watched) -> Written {
     writeln!(text, "The day {}: {}", name, words::verdict(watched.verdict()))?;
-    writeln!(text, "  {}", words::paths(day))?;
-    writeln!(text, "  {}", words::baseline(watched))?;
-    writeln!(text, "  {}", words::judged(watched))?;
+    for fact in words::facts(day, watched) {
+        writeln!(text, "  {}", fact)?;
+    }
     words::warnings(day, watched).iter().try_for_each(|warning| writeln!(text, "  warning: {}", warning))
 }
 
@@ -86,7 +86,7 @@ fn drift(text: &mut String, day: &Day, watched: &Watched) -> Written {
     }
     let (shown, more) = worst(&watched.stretches);
     for stretch in shown {
-        let lines = words::stretch(day, stretch);
+        let lines = words::stretch(day, watched, stretch);
         writeln!(text, "  {}", lines.join("\n    "))?;
     }
     match more {

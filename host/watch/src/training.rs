@@ -4,6 +4,7 @@ use crate::counts::Counts;
 use crate::day::{Day, Paths, MAX_KNOTS};
 use crate::lent::Lent;
 use crate::mistakes::Problem;
+use crate::others::{against_others, Others};
 use crate::progress::during;
 use crate::refused::told;
 use crate::work::add;
@@ -20,6 +21,10 @@ pub struct Trained {
     pub rate: u32,
     pub knots: Vec<u32>,
     pub values: Vec<f64>,
+    /// The greatest index that the tables were read at.
+    pub greatest_index: u64,
+    /// How far the sequences go when they are held against each other.
+    pub others: Option<Others>,
 }
 
 impl Trained {
@@ -51,8 +56,14 @@ pub fn train(day: &Day, lent: &mut Lent, book: &mut [u8]) -> Result<Option<Train
         Baseline::train(lent.tables(index), lent.priors(), lists, book, &mut knots, &mut values)
             .map(|baseline| (baseline.knots.to_vec(), baseline.values.to_vec()))
     });
+    let told_at = |refusal| told(day, lent.last_index(), day.sequences[0].line(0))(refusal);
     match trained {
-        Ok((knots, values)) => Ok(Some(Trained { sequences, paths, rate, knots, values })),
+        Ok((knots, values)) => {
+            let (greatest_index, others) = (index, None);
+            let mut trained = Trained { sequences, paths, rate, knots, values, greatest_index, others };
+            trained.others = against_others(day, lent, book, &trained).map_err(told_at)?;
+            Ok(Some(trained))
+        }
         Err(refusal) => Err(where_stopped(day, lent, book, rate, refusal)),
     }
 }

@@ -146,6 +146,8 @@ mod tests {
             rate: 1,
             knots: knots.iter().map(|knot| knot.0).collect(),
             values: knots.iter().flat_map(values).collect(),
+            greatest_index: 1,
+            others: None,
         }
     }
 

@@ -3,6 +3,7 @@
 use crate::day::{Day, MAX_ENTRIES};
 use crate::known::{Found, NeverSeen};
 use crate::moved::{Moved, Share};
+use crate::others::Others;
 use crate::stretches::{End, Stretch};
 use crate::training::Trained;
 use crate::usual::{hold, Held, Why, FAR};
@@ -49,8 +50,16 @@ pub fn at(day: &Day, index: usize) -> String {
     format!("path {} (line {}{})", index + 1, day.paths.line(index), mark)
 }
 
+/// What the day is and what it is held against, a line each.
+pub fn facts(day: &Day, watched: &Watched) -> Vec<String> {
+    let mut facts = vec![paths(day), baseline(watched)];
+    facts.extend(others(day, watched));
+    facts.push(judged(watched));
+    facts
+}
+
 /// How many paths there are, and which count.
-pub fn paths(day: &Day) -> String {
+fn paths(day: &Day) -> String {
     let window = match day.window {
         0 => "all of them count".to_string(),
         window => format!("the last {} count", window),
@@ -59,7 +68,7 @@ pub fn paths(day: &Day) -> String {
 }
 
 /// What the baseline was trained on.
-pub fn baseline(watched: &Watched) -> String {
+fn baseline(watched: &Watched) -> String {
     match &watched.trained {
         None => "no training sequences, so no baseline to hold it against".to_string(),
         Some(trained) => format!(
@@ -73,7 +82,7 @@ pub fn baseline(watched: &Watched) -> String {
 }
 
 /// How much of the day is judged.
-pub fn judged(watched: &Watched) -> String {
+fn judged(watched: &Watched) -> String {
     let Tally { judged, unjudged, unread, left_out, .. } = watched.tally();
     let what = if unread > 0 { "reading" } else { "path" };
     if unjudged + left_out == 0 {
@@ -87,6 +96,17 @@ pub fn judged(watched: &Watched) -> String {
         text.push_str(&format!("; {} without a judgement", unjudged));
     }
     text
+}
+
+/// How far the training's own days go.
+fn others(day: &Day, watched: &Watched) -> Option<String> {
+    let trained = watched.trained.as_ref()?;
+    trained.others.map(|Others { most, above }| {
+        format!(
+            "held against the others, a training sequence goes up to {:.1} deviations; {} of {} pass {}",
+            most, above, trained.sequences, day.drift
+        )
+    })
 }
 
 /// What makes the judgement weaker than it looks.
@@ -177,7 +197,7 @@ pub fn nowhere(day: &Day, watched: &Watched) -> String {
 }
 
 /// A stretch: from where to where, its worst reading, and the node to look at.
-pub fn stretch(day: &Day, stretch: &Stretch) -> Vec<String> {
+pub fn stretch(day: &Day, watched: &Watched, stretch: &Stretch) -> Vec<String> {
     let earlier = if stretch.maybe_earlier { ", or earlier," } else { "" };
     let (first, last) = (at(day, stretch.first), at(day, stretch.last));
     let end = match stretch.end {
@@ -191,8 +211,14 @@ pub fn stretch(day: &Day, stretch: &Stretch) -> Vec<String> {
         true => format!("at {}{}{}", first, earlier.trim_end_matches(','), end),
         false => format!("from {}{} to {}{}", first, earlier, last, end),
     };
+    let others = watched.trained.as_ref().and_then(|trained| trained.others);
+    let beside = match others.is_some_and(|others| stretch.deviations <= others.most) {
+        true => ", no further than a training sequence goes",
+        false => "",
+    };
+    let worst = at(day, stretch.worst);
     let mut lines = vec![range];
-    lines.push(format!("worst after {}: {:.1} deviations above", at(day, stretch.worst), stretch.deviations));
+    lines.push(format!("worst after {}: {:.1} deviations above{}", worst, stretch.deviations, beside));
     lines.extend(stretch.moved.as_ref().map(|moved| format!("look at {}", moved_text(day, moved))));
     lines
 }
