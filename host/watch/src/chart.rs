@@ -248,11 +248,7 @@ impl Frame<'_> {
 
     /// Stretches, what is not judged, and what was never seen.
     fn shades(&self, svg: &mut String, top: f64) {
-        let mut drifts = vec![false; self.columns];
-        for stretch in &self.watched.stretches {
-            drifts[self.column(stretch.first)..=self.column(stretch.last)].fill(true);
-        }
-        let (mut unjudged, mut never_seen) = (vec![false; self.columns], vec![false; self.columns]);
+        let (mut unjudged, mut never_seen) = (vec![0; self.columns], vec![false; self.columns]);
         // What has no reading of its own is as the reading before it.
         let mut not_judged = false;
         for (index, place) in self.watched.places.iter().enumerate() {
@@ -262,17 +258,22 @@ impl Frame<'_> {
                 Place::Read(_) => not_judged = false,
                 Place::Unread => {}
             }
-            unjudged[self.column(index)] |= not_judged;
+            unjudged[self.column(index)] |= u8::from(not_judged);
         }
         let panel = self.size.panel;
-        for (x, width) in self.runs(&drifts) {
+        for (x, width, quarters) in self.runs(&self.drifting()) {
             let _ = writeln!(
                 svg,
-                "<rect class=\"stretch\" x=\"{:.2}\" y=\"{}\" width=\"{:.2}\" height=\"{}\"/>",
-                x, top, width, panel
+                "<rect class=\"stretch\" fill-opacity=\"{}\" x=\"{:.2}\" y=\"{}\" width=\"{:.2}\" \
+                 height=\"{}\"/>",
+                f64::from(quarters) / 4.0,
+                x,
+                top,
+                width,
+                panel
             );
         }
-        for (x, width) in self.runs(&unjudged) {
+        for (x, width, _) in self.runs(&unjudged) {
             let _ = writeln!(
                 svg,
                 "<rect class=\"unjudged\" fill=\"url(#hatch-{})\" x=\"{:.2}\" y=\"{}\" width=\"{:.2}\" \
@@ -286,15 +287,30 @@ impl Frame<'_> {
         }
     }
 
-    /// Neighbouring columns that are set: where they begin, and how wide they are.
-    fn runs(&self, columns: &[bool]) -> Vec<(f64, f64)> {
+    /// How many quarters of each column lie in stretches, begun ones whole. In a long day a column
+    /// has many paths, and a short stretch must not look like a long one.
+    fn drifting(&self) -> Vec<u8> {
+        let (mut paths, mut drifting) = (vec![0; self.columns], vec![0; self.columns]);
+        (0..self.day.paths.len()).for_each(|index| paths[self.column(index)] += 1);
+        for stretch in &self.watched.stretches {
+            (stretch.first..=stretch.last).for_each(|index| drifting[self.column(index)] += 4);
+        }
+        drifting
+            .iter()
+            .zip(paths)
+            .map(|(drifting, paths): (&usize, usize)| drifting.div_ceil(paths) as u8)
+            .collect()
+    }
+
+    /// Neighbouring columns of one level above 0: where they begin, how wide they are, the level.
+    fn runs(&self, columns: &[u8]) -> Vec<(f64, f64, u8)> {
         let edge =
             |column: usize| self.edge(column as f64 / self.columns as f64 * self.day.paths.len() as f64);
         let (mut runs, mut start) = (Vec::new(), 0);
         for run in columns.chunk_by(|one, other| one == other) {
-            if run[0] {
+            if run[0] > 0 {
                 let width = edge(start + run.len()) - edge(start);
-                runs.push((edge(start), width.max(1.5)));
+                runs.push((edge(start), width.max(1.5), run[0]));
             }
             start += run.len();
         }

@@ -84,7 +84,7 @@ fn no_drifted_day_is_silent_and_no_stretch_ends_early() {
                 let (_, watched) = watched(Plan { sequences, rate, ..GROSS }, seed);
                 assert_eq!(watched.verdict(), Verdict::Drift);
                 let last = watched.stretches.last().expect("a stretch");
-                assert_eq!((last.last, last.end), (259, End::EndOfDay), "{} {:?} {}", sequences, rate, seed);
+                assert_eq!((last.last, last.end), (259, End::DayEnds), "{} {:?} {}", sequences, rate, seed);
             }
         }
     }

@@ -33,6 +33,7 @@ mod work;
 
 use arguments::Command;
 use day::Day;
+use std::ffi::OsString;
 use std::fs::File;
 use std::io::{BufWriter, Read, Write};
 use std::process::ExitCode;
@@ -47,8 +48,10 @@ const DRIFT: u8 = 3;
 const NOT_ALL_JUDGED: u8 = 4;
 
 fn main() -> ExitCode {
-    let words: Vec<String> = std::env::args().skip(1).collect();
-    let status = match arguments::command(&words) {
+    let words: Result<Vec<String>, OsString> =
+        std::env::args_os().skip(1).map(OsString::into_string).collect();
+    let no_text = |word: OsString| format!("{:?} is no text", word);
+    let status = match words.map_err(no_text).and_then(|words| arguments::command(&words)) {
         Ok(Command::Help) => show(&format!("{}\n{}", USAGE, day::FORMAT), DONE),
         Ok(Command::Watch { day, html, csv }) => watch(&day, html.as_deref(), csv.as_deref()),
         Ok(Command::Priors { days }) => priors(&days),

@@ -10,6 +10,8 @@ use crate::watched::{Verdict, Watched};
 use crate::words::{self, SHOWN};
 
 const STYLE: &str = include_str!("page.css");
+/// A day of more paths has several in one place of the smaller drawing.
+const MANY: usize = 300;
 /// Ways out of a node that are shown; more are counted.
 const WAYS: usize = 6;
 
@@ -106,10 +108,10 @@ fn course(day: &Day, watched: &Watched) -> String {
         format!("<li><span class=\"key key-{}\"></span>{}</li>\n", class, escaped(text))
     };
     let keys: String = keys.iter().filter(|(_, used, _)| *used).map(key).collect();
-    let many = day.paths.len() > 1_000;
-    let columns = match many {
+    let columns = match day.paths.len() > MANY {
         true => {
-            "<p class=\"note\">The day is long: a place in the picture is the greatest of its readings.</p>\n"
+            "<p class=\"note\">The day is long: a place in the picture is the greatest of its readings, and \
+             the paler it is marked the fewer of them drift.</p>\n"
         }
         false => "",
     };

@@ -149,3 +149,56 @@ fn statistics(text: &mut String, day: &Day, watched: &Watched) -> Written {
     }
     Ok(())
 }
+
+#[cfg(test)]
+mod tests {
+    use super::report;
+    use crate::reader::read;
+    use crate::watched::Watched;
+    use crate::work::watch;
+
+    /// A day of so many stretches: a dozen paths that stick, a dozen that do not. The later ones
+    /// stick longer and are worse.
+    fn stretches(count: usize) -> (String, Watched) {
+        let calm = "path 1/7 0/7\npath 1/7 0/9\n".repeat(12);
+        let sticks = |number: usize| "path 1/7 0/7\n".repeat(12 + number % 30);
+        let training = ["0/7", "0/9"].map(|child| {
+            format!("sequence\npath 1/7 {}\n{}", child, "path 1/7 0/7\npath 1/7 0/9\n".repeat(20))
+        });
+        let paths: String = (0..count).map(|number| sticks(number) + &calm).collect();
+        let text = format!(
+            "window 10\nprior 1/7 1 0/7 50 0/9 50\n{}day\n{}{}",
+            training.concat(),
+            calm.repeat(2),
+            paths
+        );
+        let day = read(text.as_bytes()).expect("the day can be read");
+        let watched = watch(&day).expect("the day can be run");
+        (report("a day", &day, &watched), watched)
+    }
+
+    #[test]
+    fn the_worst_stretches_are_shown_and_the_others_counted() {
+        let (text, watched) = stretches(30);
+        let told =
+            text.lines().filter(|line| line.starts_with("  from path ") || line.starts_with("  at path "));
+        let first =
+            |line: &str| line.split_whitespace().nth(2).and_then(|word| word.parse().ok()).unwrap_or(0);
+        let told: Vec<usize> = told.map(first).collect();
+        assert!(watched.stretches.len() > 20, "{}", watched.stretches.len());
+        assert_eq!(told.len(), 20);
+        assert!(told.is_sorted(), "{:?}", told);
+        let more = watched.stretches.len() - 20;
+        let line =
+            format!("  and {} more stretch{}, none of them worse\n", more, if more == 1 { "" } else { "es" });
+        assert!(text.contains(&line), "{}", text);
+        // Those that are not shown are not worse than any that is.
+        let is_told = |first: usize| told.contains(&(first + 1));
+        let (shown, hidden): (Vec<_>, Vec<_>) = watched.stretches.iter().partition(|one| is_told(one.first));
+        let least = shown.iter().map(|stretch| stretch.deviations).fold(f64::MAX, f64::min);
+        assert!(hidden.iter().all(|stretch| stretch.deviations <= least));
+        assert_eq!(hidden.len(), more);
+        let (few, _) = stretches(3);
+        assert!(!few.contains("none of them worse"), "{}", few);
+    }
+}

@@ -12,7 +12,7 @@ pub enum End {
     /// The readings behind it do not drift.
     Over,
     /// It is the day's last.
-    EndOfDay,
+    DayEnds,
     /// From the path with this index on nothing is judged for a while, or to the end of the day.
     NotKnown(usize),
 }
@@ -97,7 +97,7 @@ impl Stretches {
     /// The day is over.
     pub fn done(mut self) -> Vec<Stretch> {
         if self.open {
-            let over = if self.calm == 0 { End::EndOfDay } else { End::Over };
+            let over = if self.calm == 0 { End::DayEnds } else { End::Over };
             self.end(self.first_unjudged.map_or(over, End::NotKnown));
         }
         self.list
@@ -140,7 +140,7 @@ mod tests {
 
     #[test]
     fn the_end_of_the_day() {
-        assert_eq!(stretches("...45"), [(3, 4, End::EndOfDay, 4)]);
+        assert_eq!(stretches("...45"), [(3, 4, End::DayEnds, 4)]);
         assert_eq!(stretches("...45."), [(3, 4, End::Over, 4)]);
     }
 

@@ -111,9 +111,10 @@ mod tests {
     #[test]
     fn a_rate_puts_a_knot_on_the_last_path() {
         // Paths, rate, knots.
-        let cases = [(1, 1, 1), (2, 1, 2), (40, 1, 40), (128, 1, 128), (1_024, 11, 94), (65_536, 771, 86)];
+        let cases =
+            [(1_usize, 1, 1), (2, 1, 2), (40, 1, 40), (128, 1, 128), (1_024, 11, 94), (65_536, 771, 86)];
         for (paths, rate, knots) in cases {
-            assert_eq!((rate_for(paths), (paths as usize).div_ceil(rate)), (rate, knots), "{}", paths);
+            assert_eq!((rate_for(paths), paths.div_ceil(rate)), (rate, knots), "{}", paths);
             assert_eq!((paths - 1) % rate, 0, "{}", paths);
         }
         // One path less is a prime number: every path, as long as there are few enough.

@@ -202,7 +202,7 @@ pub fn stretch(day: &Day, watched: &Watched, stretch: &Stretch) -> Vec<String> {
     let (first, last) = (at(day, stretch.first), at(day, stretch.last));
     let end = match stretch.end {
         End::Over => String::new(),
-        End::EndOfDay => ", the end of the day".to_string(),
+        End::DayEnds => ", the end of the day".to_string(),
         End::NotKnown(index) => {
             format!(" at least: from path {} on it is not judged, and its end is not known", index + 1)
         }
