@@ -8,6 +8,7 @@ mod checks;
 mod counts;
 mod csv;
 mod day;
+mod facts;
 mod gamma;
 #[cfg(test)]
 mod generated;

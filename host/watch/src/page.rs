@@ -4,6 +4,7 @@
 
 use crate::chart::{chart, NARROW, WIDE};
 use crate::day::Day;
+use crate::facts;
 use crate::moved::{Moved, Share};
 use crate::report::worst;
 use crate::watched::{Verdict, Watched};
@@ -73,13 +74,13 @@ fn head(name: &str, day: &Day, watched: &Watched) -> String {
         Verdict::NotAllJudged => "open",
     };
     let warnings: Vec<String> =
-        words::warnings(day, watched).iter().map(|warning| format!("warning: {}", warning)).collect();
+        facts::warnings(day, watched).iter().map(|warning| format!("warning: {}", warning)).collect();
     format!(
         "<header class=\"{}\">\n<p class=\"name\">The day {}</p>\n<h1>{}</h1>\n{}{}</header>\n",
         class,
         escaped(name),
         escaped(&heading(words::verdict(watched.verdict()))),
-        list("facts", &words::facts(day, watched)),
+        list("facts", &facts::facts(day, watched)),
         list("warnings", &warnings)
     )
 }

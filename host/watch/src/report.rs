@@ -1,6 +1,7 @@
 //! The report of a day, as text.
 
 use crate::day::Day;
+use crate::facts;
 use crate::stretches::Stretch;
 use crate::usual::Held;
 use crate::watched::{Judged, Reading, Watched};
@@ -28,10 +29,10 @@ type Written = std::fmt::Result;
 
 fn head(text: &mut String, name: &str, day: &Day, watched: &Watched) -> Written {
     writeln!(text, "The day {}: {}", name, words::verdict(watched.verdict()))?;
-    for fact in words::facts(day, watched) {
+    for fact in facts::facts(day, watched) {
         writeln!(text, "  {}", fact)?;
     }
-    words::warnings(day, watched).iter().try_for_each(|warning| writeln!(text, "  warning: {}", warning))
+    facts::warnings(day, watched).iter().try_for_each(|warning| writeln!(text, "  warning: {}", warning))
 }
 
 /// Sum and maximum through the day, beside the baseline's means.

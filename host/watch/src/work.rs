@@ -175,12 +175,12 @@ impl Run<'_> {
 mod tests {
     use super::{add, watch, EVERY};
     use crate::day::{Day, MAX_ENTRIES};
-    use crate::gamma;
+    use crate::lent::Lent;
     use crate::mistakes::Problem;
     use crate::reader::read;
     use crate::report::report;
     use crate::watched::{LeftOut, Place, Reading, Verdict, Watched};
-    use teakpool::{Address, PriorRecords, Tables, Tracker, ENTRY_BYTES, PLACE_BYTES};
+    use teakpool::{Address, Tracker, ENTRY_BYTES, PLACE_BYTES};
 
     const KIT: &str = "tables squares 7\nprior 1/7 1 0/7 2 0/9 3\n";
 
@@ -296,13 +296,8 @@ mod tests {
 
     #[test]
     fn a_reading_is_the_same_however_much_of_the_tables_is_lent() {
-        let example = day(include_str!("../../../days/example.txt"));
-        let (g, d) = gamma::tables(100_000);
-        let mut records = PriorRecords::default();
-        for (node, prior) in &example.priors {
-            let children: Vec<(Address, u32)> = prior.children.clone().into_iter().collect();
-            records.node(*node, prior.ends, &children);
-        }
+        let mut long = Lent::of(&day(include_str!("../../../days/example.txt")));
+        long.reach(100_000);
         for window in [0, 7, 40] {
             let day = Day { window, ..day(include_str!("../../../days/example.txt")) };
             let watched = watch(&day).expect("the day can be run");
@@ -310,7 +305,7 @@ mod tests {
             let mut tracker = Tracker::open(window, &mut book, &mut queue).expect("the memory is enough");
             for (index, steps) in day.paths.iter().enumerate() {
                 add(&mut tracker, steps).expect("the path fits");
-                let stats = tracker.kl_div_stats(Tables { g: &g, d: &d }, records.lent());
+                let stats = tracker.kl_div_stats(long.tables(100_000), long.priors());
                 let Place::Read(Reading { stats: read, .. }) = &watched.places[index] else {
                     panic!("path {} is not read", index);
                 };
