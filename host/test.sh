@@ -31,16 +31,32 @@ for file in ../vectors/*.bin; do
     cmp "$file" "target/vectors/$(basename "$file")"
 done
 
-# Help and a missing file are answered without the archive.
-TEAKPOOL_ARCHIVE=none ../run --help | tail -n +3 | diff watch/src/format.txt -
-if TEAKPOOL_ARCHIVE=none ../run target/none 2> target/none.out; then
-    exit 1
-fi
-echo "target/none: there is no such file" | diff - target/none.out
+# Help, wrong arguments and a missing file are answered without the archive.
+TEAKPOOL_ARCHIVE=none ../run --help > target/help.out
+{ cat watch/src/usage.txt; echo; cat watch/src/format.txt; } | diff - target/help.out
+answered() {
+    expected=$1
+    told=$2
+    shift 2
+    status=0
+    TEAKPOOL_ARCHIVE=none ../run "$@" 2> target/told.out || status=$?
+    echo "$told" | diff - target/told.out
+    [ $status -eq "$expected" ]
+}
+answered 1 "target/none: there is no such file" target/none
+answered 1 "target/none: there is no such file" priors -- target/none
+answered 2 "'--htlm' is no option; ./run --help tells more" --htlm target/none
+answered 2 "--csv wants a file; ./run --help tells more" --csv
+answered 2 "one day is read at a time; ./run --help tells more" target/none target/none
 
 if ../prebuilt/archive >target/archive.path; then
-    ../run > target/example.out
+    # The example drifts, which the status tells.
+    status=0
+    (cd .. && ./run --html host/target/example.html --csv host/target/example.csv) > target/example.out || status=$?
     diff ../days/example.out target/example.out
+    [ $status -eq 3 ]
+    grep -q '<h1>Drift found</h1>' target/example.html
+    [ "$(wc -l < target/example.csv)" -eq 181 ]
     echo "the example day: the report is the stored one"
     cargo test --release --offline --quiet -p teakpool -p watch
     cargo build --release --offline --quiet -p teakpool --no-default-features

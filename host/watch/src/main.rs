@@ -1,50 +1,178 @@
-//! Reads a recorded day, runs it through the watch, and prints the divergences by node, the
-//! statistics beside the baseline, and where the day drifts. A line that cannot be taken is told
-//! by its number, and the exit status is then 1.
-//!
-//!     watch FILE
+//! The program behind ./run: reads a recorded day, runs it through the watch, and prints where the
+//! day drifts, what was never seen and what could not be judged, with the divergences by node and
+//! the statistics beside the baseline. `usage.txt` has the arguments and the exit statuses.
 
+mod arguments;
+mod chart;
+mod checks;
+mod counts;
+mod csv;
 mod day;
+mod facts;
+#[cfg(test)]
+mod generated;
+mod known;
+mod lent;
+#[cfg(test)]
+mod made_up;
+mod mistakes;
+mod moved;
+mod others;
+mod page;
+mod priors;
 mod progress;
+mod reader;
 mod refused;
 mod report;
+mod stretches;
+mod training;
+mod usual;
+mod watched;
+mod words;
 mod work;
 
-use std::io::Write;
+use arguments::Command;
+use day::Day;
+use std::ffi::OsString;
+use std::fs::File;
+use std::io::{BufWriter, Read, Write};
 use std::process::ExitCode;
+use watched::{Verdict, Watched};
+
+const USAGE: &str = include_str!("usage.txt");
+
+const DONE: u8 = 0;
+const MISTAKE: u8 = 1;
+const MISUSE: u8 = 2;
+const DRIFT: u8 = 3;
+const NOT_ALL_JUDGED: u8 = 4;
 
 fn main() -> ExitCode {
-    let words: Vec<String> = std::env::args().skip(1).collect();
-    match &words[..] {
-        [word] if word == "--help" || word == "-h" => show(&format!("usage: watch FILE\n\n{}", day::FORMAT)),
-        [file] => match watch(file) {
-            Ok(text) => show(&text),
-            Err(text) => {
-                eprintln!("{}: {}", file, text);
-                ExitCode::FAILURE
-            }
-        },
-        _ => {
-            eprintln!("usage: watch FILE   (watch --help tells what a file holds)");
-            ExitCode::from(2)
-        }
-    }
+    let words: Result<Vec<String>, OsString> =
+        std::env::args_os().skip(1).map(OsString::into_string).collect();
+    let no_text = |word: OsString| format!("{:?} is no text", word);
+    let status = match words.map_err(no_text).and_then(|words| arguments::command(&words)) {
+        Ok(Command::Help) => show(&format!("{}\n{}", USAGE, day::FORMAT), DONE),
+        Ok(Command::Watch { day, html, csv }) => watch(&day, html.as_deref(), csv.as_deref()),
+        Ok(Command::Priors { days }) => priors(&days),
+        Err(mistake) => misuse(&mistake),
+    };
+    ExitCode::from(status)
 }
 
-/// Prints; a reader that goes away early is no failure.
-fn show(text: &str) -> ExitCode {
+/// Prints, and gives the status; a reader that goes away early is no failure.
+fn show(text: &str, status: u8) -> u8 {
     match std::io::stdout().write_all(text.as_bytes()) {
         Err(error) if error.kind() != std::io::ErrorKind::BrokenPipe => {
             eprintln!("the report cannot be written: {}", error);
-            ExitCode::FAILURE
+            MISTAKE
         }
-        _ => ExitCode::SUCCESS,
+        _ => status,
     }
 }
 
-fn watch(file: &str) -> Result<String, String> {
-    let bytes = std::fs::read(file).map_err(|error| format!("cannot be read: {}", error))?;
-    let day = day::read(&bytes).map_err(|problem| problem.to_string())?;
-    let watched = work::watch(&day).map_err(|problem| problem.to_string())?;
-    Ok(report::report(file, &day, &watched))
+/// Writes what is asked for and prints the report of a day, or a line for each mistake in its file.
+fn watch(file: &str, html: Option<&str>, csv: Option<&str>) -> u8 {
+    let outputs: Vec<&str> = html.into_iter().chain(csv).collect();
+    if outputs.contains(&"-") {
+        return misuse("standard output has the report; --html and --csv want files");
+    }
+    let all: Vec<&str> = outputs.iter().copied().chain([file]).collect();
+    if let Some(twice) =
+        all.iter().enumerate().find(|(at, one)| all[..*at].iter().any(|other| same(one, other)))
+    {
+        return misuse(&format!("{} would be written over", twice.1));
+    }
+    let (day, watched) = match watched(file) {
+        Ok(read) => read,
+        Err(lines) => return mistakes(file, &lines),
+    };
+    let mut result = status(watched.verdict());
+    if let Some(html) = html {
+        let page = page::page(name(file), &day, &watched);
+        result = written(html, |out| out.write_all(page.as_bytes())).unwrap_or(result);
+    }
+    if let Some(csv) = csv {
+        result = written(csv, |out| csv::write(out, &day, &watched)).unwrap_or(result);
+    }
+    show(&report::report(name(file), &day, &watched), result)
+}
+
+/// True where two names are one file.
+fn same(one: &str, other: &str) -> bool {
+    let place = |file: &str| std::fs::canonicalize(file).ok();
+    one == other || place(one).is_some_and(|one| place(other) == Some(one))
+}
+
+/// Writes a file; the status where that fails.
+fn written(file: &str, write: impl FnOnce(&mut BufWriter<File>) -> std::io::Result<()>) -> Option<u8> {
+    let result = File::create(file).map(BufWriter::new).and_then(|mut out| {
+        write(&mut out)?;
+        out.flush()
+    });
+    result.err().map(|error| mistakes(file, &[format!("cannot be written: {}", error)]))
+}
+
+/// Prints the priors of good days, or a line for each mistake.
+fn priors(files: &[String]) -> u8 {
+    let (mut good, mut result) = (priors::GoodDays::default(), DONE);
+    for file in files {
+        let bytes = input(file).map_err(|error| vec![format!("cannot be read: {}", error)]);
+        match bytes.and_then(|bytes| reader::read_paths(&bytes).map_err(|mistakes| mistakes.lines())) {
+            Ok(day) => good.add(&day),
+            Err(lines) => result = mistakes(file, &lines),
+        }
+    }
+    match good.lines() {
+        _ if result != DONE => result,
+        Ok(text) => show(&text, DONE),
+        Err(lines) => mistakes("priors", &lines),
+    }
+}
+
+fn misuse(mistake: &str) -> u8 {
+    eprintln!("{}; ./run --help tells more", mistake);
+    MISUSE
+}
+
+/// Reads a day and runs it; else a line for each mistake.
+fn watched(file: &str) -> Result<(Day, Watched), Vec<String>> {
+    let bytes = input(file).map_err(|error| vec![format!("cannot be read: {}", error)])?;
+    let day = reader::read(&bytes).map_err(|mistakes| mistakes.lines())?;
+    let watched = work::watch(&day).map_err(|problem| vec![problem.to_string()])?;
+    Ok((day, watched))
+}
+
+/// What a file is called.
+fn name(file: &str) -> &str {
+    match file {
+        "-" => "standard input",
+        file => file,
+    }
+}
+
+fn status(verdict: Verdict) -> u8 {
+    match verdict {
+        Verdict::NoDrift => DONE,
+        Verdict::Drift => DRIFT,
+        Verdict::NotAllJudged => NOT_ALL_JUDGED,
+    }
+}
+
+/// Tells what is wrong with a file.
+fn mistakes(file: &str, lines: &[String]) -> u8 {
+    lines.iter().for_each(|line| eprintln!("{}: {}", name(file), line));
+    MISTAKE
+}
+
+/// The bytes of a file; '-' is standard input.
+fn input(file: &str) -> std::io::Result<Vec<u8>> {
+    match file {
+        "-" => {
+            let mut bytes = Vec::new();
+            std::io::stdin().read_to_end(&mut bytes)?;
+            Ok(bytes)
+        }
+        file => std::fs::read(file),
+    }
 }

@@ -1,11 +1,12 @@
 //! What the archive refuses in a day, as the line to look at and what is wrong there. The reader
 //! has tested all that shows in a line; left over is what grows with the paths.
 
-use crate::day::{Day, Path, Problem, MAX_ENTRIES};
+use crate::day::{Day, MAX_ENTRIES};
+use crate::mistakes::Problem;
 use teakpool::{Address, Refusal};
 
-/// Tells what is refused when `path` is added or read; the tables end at `last_index`.
-pub fn told<'a>(day: &'a Day, last_index: u64, path: &'a Path) -> impl Fn(Refusal) -> Problem + 'a {
+/// Tells what is refused when the path of a line is added or read; the tables end at `last_index`.
+pub fn told(day: &Day, last_index: u64, line: usize) -> impl Fn(Refusal) -> Problem + '_ {
     move |refusal| {
         let text = match refusal {
             Refusal::PathsFull => "a day has at most 16777216 paths".to_string(),
@@ -13,15 +14,15 @@ pub fn told<'a>(day: &'a Day, last_index: u64, path: &'a Path) -> impl Fn(Refusa
                 "up to this path there are over {} nodes and transitions, more than a book holds",
                 MAX_ENTRIES
             ),
-            Refusal::PastTable(node) => return past_table(day, last_index, path, node),
+            Refusal::PastTable(node) => return past_table(day, last_index, line, node),
             other => other.to_string(),
         };
-        Problem { line: path.line, text }
+        Problem { line, text }
     }
 }
 
 /// The prior is to blame where its counts alone leave no room for a path.
-fn past_table(day: &Day, last_index: u64, path: &Path, node: Address) -> Problem {
+fn past_table(day: &Day, last_index: u64, line: usize, node: Address) -> Problem {
     match day.priors.get(&node).filter(|prior| prior.total() >= last_index) {
         Some(prior) => {
             let text = format!(
@@ -37,7 +38,7 @@ fn past_table(day: &Day, last_index: u64, path: &Path, node: Address) -> Problem
                  the last index of the tables",
                 node, last_index
             );
-            Problem { line: path.line, text }
+            Problem { line, text }
         }
     }
 }

@@ -1,7 +1,11 @@
 //! The report of a day, as text.
 
 use crate::day::Day;
-use crate::work::{deviations, Moved, Reading, Stretch, Watched};
+use crate::facts;
+use crate::stretches::Stretch;
+use crate::usual::Held;
+use crate::watched::{Judged, Reading, Watched};
+use crate::words::{self, SHOWN};
 use std::fmt::Write;
 use teakpool::MeanVariance;
 
@@ -15,167 +19,187 @@ pub fn report(name: &str, day: &Day, watched: &Watched) -> String {
     let _ = head(&mut text, name, day, watched)
         .and_then(|()| course(&mut text, day, watched))
         .and_then(|()| drift(&mut text, day, watched))
-        .and_then(|()| nodes(&mut text, watched))
-        .and_then(|()| statistics(&mut text, watched));
+        .and_then(|()| never_seen(&mut text, day, watched))
+        .and_then(|()| nodes(&mut text, day, watched))
+        .and_then(|()| statistics(&mut text, day, watched));
     text
 }
 
 type Written = std::fmt::Result;
 
 fn head(text: &mut String, name: &str, day: &Day, watched: &Watched) -> Written {
-    let window = match day.window {
-        0 => "all of them count".to_string(),
-        window => format!("the last {} count", window),
-    };
-    writeln!(text, "The day {}", name)?;
-    writeln!(text, "  paths: {}, {}; nodes with a prior: {}", day.paths.len(), window, day.priors.len())?;
-    let Some(trained) = &watched.trained else {
-        return writeln!(text, "  no training sequences, so no baseline to hold it against");
-    };
-    writeln!(
-        text,
-        "  baseline: {} training sequences of {} paths, {} knots",
-        trained.sequences, trained.paths, trained.knots
-    )?;
-    let longest = watched.readings.iter().map(|reading| reading.stats.sequence_length).max();
-    if trained.knots > 1 && longest > Some(u64::from(trained.last_knot)) {
-        writeln!(text, "  past length {} the baseline is extrapolated", trained.last_knot)?;
+    writeln!(text, "The day {}: {}", name, words::verdict(watched.verdict()))?;
+    for fact in facts::facts(day, watched) {
+        writeln!(text, "  {}", fact)?;
     }
-    Ok(())
-}
-
-/// A figure in ten columns; what is no figure is a dash.
-fn figure(value: f64) -> String {
-    match value {
-        value if !value.is_finite() || value.abs() >= f64::MAX => format!("{:>10}", "-"),
-        value if value != 0.0 && (value.abs() < 0.001 || value.abs() >= 1.0e6) => format!("{:>10.2e}", value),
-        value => format!("{:>10.3}", value),
-    }
-}
-
-fn deviation(value: Option<f64>) -> String {
-    value.map_or(format!("{:>8}", "-"), |value| format!("{:>+8.1}", value))
+    facts::warnings(day, watched).iter().try_for_each(|warning| writeln!(text, "  warning: {}", warning))
 }
 
 /// Sum and maximum through the day, beside the baseline's means.
 fn course(text: &mut String, day: &Day, watched: &Watched) -> Written {
+    let readings: Vec<(usize, &Reading)> = watched.readings().collect();
+    if readings.is_empty() {
+        return Ok(());
+    }
     writeln!(text, "\nHow it went: divergences in the window, the baseline's mean at the same length, and")?;
-    writeln!(text, "how many standard deviations lie between (* more than {} above)", day.drift)?;
+    writeln!(
+        text,
+        "how many standard deviations lie between (* more than {} above, ? not judged)",
+        day.drift
+    )?;
     writeln!(
         text,
         "  {:>6} {:>6} {:>10} {:>10} {:>8} {:>10} {:>10} {:>8}",
         "path", "length", "sum", "mean", "dev", "maximum", "mean", "dev"
     )?;
-    let every = watched.readings.len().div_ceil(ROWS);
-    for (index, reading) in watched.readings.iter().enumerate() {
-        if (index + 1) % every == 0 || index + 1 == watched.readings.len() {
-            row(text, index, reading, day)?;
+    let every = readings.len().div_ceil(ROWS);
+    for (number, (index, reading)) in (1..).zip(&readings) {
+        if number % every == 0 || number == readings.len() {
+            row(text, *index, reading, watched)?;
         }
     }
     Ok(())
 }
 
-fn row(text: &mut String, index: usize, reading: &Reading, day: &Day) -> Written {
-    let Reading { stats, usual, .. } = reading;
-    let beside = |value: f64, usual: Option<MeanVariance>| {
+fn row(text: &mut String, index: usize, reading: &Reading, watched: &Watched) -> Written {
+    let Reading { stats, sum, maximum, judged } = reading;
+    let figures = watched.usual(stats.sequence_length).figures;
+    let beside = |value: f64, usual: Option<MeanVariance>, held: Held| {
         let mean = usual.map_or(f64::NAN, |usual| usual.mean);
-        let above = usual.and_then(|usual| deviations(value, usual));
-        format!("{} {} {}", figure(value), figure(mean), deviation(above))
+        let above = words::deviations(held.deviations());
+        format!("{:>10} {:>10} {:>8}", words::figure(value), words::figure(mean), above)
     };
-    let star = if reading.deviations.is_some_and(|above| above > day.drift) { "*" } else { "" };
-    let sum = beside(stats.sum, usual.map(|usual| usual.sum));
-    let maximum = beside(stats.maximum, usual.map(|usual| usual.maximum));
-    writeln!(text, "  {:>6} {:>6} {} {} {}", index + 1, stats.sequence_length, sum, maximum, star)
-        .map(|()| trim_end(text))
+    let sign = match judged {
+        Judged::Calm => "",
+        Judged::Drift(_) => " *",
+        Judged::Not(_) => " ?",
+    };
+    let sum = beside(stats.sum, figures.map(|figures| figures.sum), *sum);
+    let maximum = beside(stats.maximum, figures.map(|figures| figures.maximum), *maximum);
+    writeln!(text, "  {:>6} {:>6} {} {}{}", index + 1, stats.sequence_length, sum, maximum, sign)
 }
 
-/// Takes blanks from the end of the last line.
-fn trim_end(text: &mut String) {
-    text.truncate(text.trim_end().len());
-    text.push('\n');
-}
-
-/// Where the day drifts, with the node and the child to look at.
+/// Where the day drifts, with the node and the child to look at, and what is not judged.
 fn drift(text: &mut String, day: &Day, watched: &Watched) -> Written {
     writeln!(text, "\nWhere it drifts")?;
-    if watched.trained.is_none() {
-        return writeln!(text, "  not known without a baseline");
-    }
     if watched.stretches.is_empty() {
-        return writeln!(text, "  nowhere: no reading is more than {} deviations above", day.drift);
+        writeln!(text, "  {}", words::nowhere(day, watched))?;
     }
-    watched.stretches.iter().try_for_each(|stretch| stretch_text(text, day, stretch))
+    let (shown, more) = worst(&watched.stretches);
+    for stretch in shown {
+        let lines = words::stretch(day, watched, stretch);
+        writeln!(text, "  {}", lines.join("\n    "))?;
+    }
+    match more {
+        0 => {}
+        more => writeln!(text, "  and {}, none of them worse", words::number(more, "more stretch"))?,
+    }
+    for part in watched.unjudged().iter().take(SHOWN) {
+        writeln!(text, "  {}", words::part(day, watched, part))?;
+    }
+    match watched.unjudged().len().saturating_sub(SHOWN) {
+        0 => Ok(()),
+        more => writeln!(text, "  and {} are not judged", words::number(more, "more part")),
+    }
 }
 
-fn stretch_text(text: &mut String, day: &Day, stretch: &Stretch) -> Written {
-    let at = |index: usize| {
-        let mark = day.mark_at(index).map(|mark| format!(", {}", mark)).unwrap_or_default();
-        format!("path {} (line {}{})", index + 1, day.paths[index].line, mark)
+/// The worst stretches in the day's order, and how many more there are.
+pub fn worst(stretches: &[Stretch]) -> (Vec<&Stretch>, usize) {
+    let mut worst: Vec<&Stretch> = stretches.iter().collect();
+    worst.sort_by(|one, other| other.deviations.total_cmp(&one.deviations));
+    worst.truncate(SHOWN);
+    worst.sort_by_key(|stretch| stretch.first);
+    (worst, stretches.len().saturating_sub(SHOWN))
+}
+
+/// What no good day has done.
+fn never_seen(text: &mut String, day: &Day, watched: &Watched) -> Written {
+    let Some((title, found, more)) = words::never_seen(watched) else {
+        return Ok(());
     };
-    match stretch.first == stretch.last {
-        true => writeln!(text, "  at {}", at(stretch.first))?,
-        false => writeln!(text, "  from {} to {}", at(stretch.first), at(stretch.last))?,
-    }
-    writeln!(text, "    worst after {}: {:.1} deviations above", at(stretch.worst), stretch.deviations)?;
-    match &stretch.moved {
-        Some(moved) => writeln!(text, "    look at {}", moved_text(moved)),
-        None => Ok(()),
-    }
-}
-
-fn moved_text(moved: &Moved) -> String {
-    format!("node {}, divergence {}: {}", moved.node, figure(moved.divergence).trim(), share_text(moved))
-}
-
-fn share_text(moved: &Moved) -> String {
-    match &moved.child {
-        None => "nothing seen in the window".to_string(),
-        Some(share) => {
-            let where_to = share.child.map_or("ends here".to_string(), |child| format!("goes to {}", child));
-            format!(
-                "{} {:.0} % of the time, {:.0} % by the prior",
-                where_to,
-                100.0 * share.now,
-                100.0 * share.prior
-            )
-        }
+    writeln!(text, "\n{}", title)?;
+    found.iter().try_for_each(|found| writeln!(text, "  {}", words::found(day, found)))?;
+    match more {
+        0 => Ok(()),
+        more => writeln!(text, "  and {} of it", words::number(more, "more kind")),
     }
 }
 
 /// The divergences by node, greatest first.
-fn nodes(text: &mut String, watched: &Watched) -> Written {
-    writeln!(text, "\nBy node, at the end of the day: divergence and what has moved most")?;
-    let mut order: Vec<&Moved> = watched.nodes.iter().collect();
-    order.sort_by(|one, other| other.divergence.total_cmp(&one.divergence));
-    for moved in order {
-        writeln!(text, "  {:<12} {}   {}", moved.node, figure(moved.divergence), share_text(moved))?;
+fn nodes(text: &mut String, day: &Day, watched: &Watched) -> Written {
+    writeln!(text, "\nBy node, {}: divergence and what has moved most", words::when(day, watched))?;
+    let width = watched.nodes.iter().map(|moved| words::node(day, moved.node).chars().count()).max();
+    let width = width.unwrap_or(0).max(12);
+    for moved in &watched.nodes {
+        let (node, divergence) = (words::node(day, moved.node), words::figure(moved.divergence));
+        writeln!(text, "  {:<width$} {:>10}   {}", node, divergence, words::share(day, moved))?;
     }
-    match watched.skipped {
-        0 => Ok(()),
-        1 => writeln!(text, "  1 node without a prior is left out"),
-        skipped => writeln!(text, "  {} nodes without a prior are left out", skipped),
-    }
+    words::other_nodes(watched).iter().try_for_each(|line| writeln!(text, "  {}", line))
 }
 
 /// The five figures of the last reading beside the baseline's means and variances.
-fn statistics(text: &mut String, watched: &Watched) -> Written {
-    let Some(Reading { stats, usual, .. }) = watched.readings.last() else {
+fn statistics(text: &mut String, day: &Day, watched: &Watched) -> Written {
+    let Some((_, reading)) = watched.readings().next_back() else {
         return Ok(());
     };
-    writeln!(text, "\nStatistics at the end of the day, over divergences above 1.0e-10")?;
-    writeln!(text, "  sequence length {}", stats.sequence_length)?;
+    writeln!(text, "\nStatistics {}, over divergences above 1.0e-10", words::when(day, watched))?;
+    writeln!(text, "  sequence length {}", reading.stats.sequence_length)?;
     writeln!(text, "  {:<16} {:>10} {:>10} {:>10} {:>8}", "", "the day", "mean", "variance", "dev")?;
-    let rows = [
-        ("maximum", stats.maximum, usual.map(|usual| usual.maximum)),
-        ("minimum", stats.minimum, usual.map(|usual| usual.minimum)),
-        ("number", stats.number as f64, usual.map(|usual| usual.number)),
-        ("sum", stats.sum, usual.map(|usual| usual.sum)),
-        ("sum of squares", stats.sum_of_squares, usual.map(|usual| usual.sum_of_squares)),
-    ];
-    for (name, value, usual) in rows {
-        let (mean, variance) = usual.map_or((f64::NAN, f64::NAN), |usual| (usual.mean, usual.variance));
-        let above = deviation(usual.and_then(|usual| deviations(value, usual)));
-        writeln!(text, "  {:<16} {} {} {} {}", name, figure(value), figure(mean), figure(variance), above)?;
+    for [name, value, mean, variance, above] in words::statistics(watched, reading) {
+        writeln!(text, "  {:<16} {:>10} {:>10} {:>10} {:>8}", name, value, mean, variance, above)?;
     }
     Ok(())
+}
+
+#[cfg(test)]
+mod tests {
+    use super::report;
+    use crate::reader::read;
+    use crate::watched::Watched;
+    use crate::work::watch;
+
+    /// A day of so many stretches: a dozen paths that stick, a dozen that do not. The later ones
+    /// stick longer and are worse.
+    fn stretches(count: usize) -> (String, Watched) {
+        let calm = "path 1/7 0/7\npath 1/7 0/9\n".repeat(12);
+        let sticks = |number: usize| "path 1/7 0/7\n".repeat(12 + number % 30);
+        let training = ["0/7", "0/9"].map(|child| {
+            format!("sequence\npath 1/7 {}\n{}", child, "path 1/7 0/7\npath 1/7 0/9\n".repeat(20))
+        });
+        let paths: String = (0..count).map(|number| sticks(number) + &calm).collect();
+        let text = format!(
+            "window 10\nprior 1/7 1 0/7 50 0/9 50\n{}day\n{}{}",
+            training.concat(),
+            calm.repeat(2),
+            paths
+        );
+        let day = read(text.as_bytes()).expect("the day can be read");
+        let watched = watch(&day).expect("the day can be run");
+        (report("a day", &day, &watched), watched)
+    }
+
+    #[test]
+    fn the_worst_stretches_are_shown_and_the_others_counted() {
+        let (text, watched) = stretches(30);
+        let told =
+            text.lines().filter(|line| line.starts_with("  from path ") || line.starts_with("  at path "));
+        let first =
+            |line: &str| line.split_whitespace().nth(2).and_then(|word| word.parse().ok()).unwrap_or(0);
+        let told: Vec<usize> = told.map(first).collect();
+        assert!(watched.stretches.len() > 20, "{}", watched.stretches.len());
+        assert_eq!(told.len(), 20);
+        assert!(told.is_sorted(), "{:?}", told);
+        let more = watched.stretches.len() - 20;
+        let line =
+            format!("  and {} more stretch{}, none of them worse\n", more, if more == 1 { "" } else { "es" });
+        assert!(text.contains(&line), "{}", text);
+        // Those that are not shown are not worse than any that is.
+        let is_told = |first: usize| told.contains(&(first + 1));
+        let (shown, hidden): (Vec<_>, Vec<_>) = watched.stretches.iter().partition(|one| is_told(one.first));
+        let least = shown.iter().map(|stretch| stretch.deviations).fold(f64::MAX, f64::min);
+        assert!(hidden.iter().all(|stretch| stretch.deviations <= least));
+        assert_eq!(hidden.len(), more);
+        let (few, _) = stretches(3);
+        assert!(!few.contains("none of them worse"), "{}", few);
+    }
 }

@@ -1,281 +1,217 @@
 //! Runs a day through the archive: trains the baseline, adds the paths one by one, reads the
 //! statistics after each and holds them against the baseline, and notes where they drift.
 
-use crate::day::{Day, Path, Problem, TableRule, MAX_ENTRIES, MAX_LAST};
-use crate::progress::{during, Steps};
+use crate::counts::Counts;
+use crate::day::{Day, MAX_ENTRIES};
+use crate::known::{self, Known};
+use crate::lent::Lent;
+use crate::mistakes::Problem;
+use crate::moved;
+use crate::progress::Steps;
 use crate::refused::told;
-use teakpool::{
-    gamma_tables, place_bytes, Address, Baseline, BaselineStats, GammaTables, KLDivergenceStats,
-    MeanVariance, Output, PriorRecords, Priors, Refusal, Sequences, Tables, Tracker, ENTRY_BYTES,
-    KNOT_VALUES, PLACE_BYTES,
-};
+use crate::stretches::Stretches;
+use crate::training::{train, Trained};
+use crate::usual::Usual;
+use crate::watched::{Judged, LeftOut, Place, Reading, Watched};
+use std::collections::BTreeMap;
+use teakpool::{Address, Refusal, Tracker, ENTRY_BYTES, PLACE_BYTES};
 
-/// Drifting paths with fewer than this between them are one stretch.
-const GAP: usize = 5;
+/// Nodes that a report shows.
+pub const NODES: usize = 20;
+/// Where all paths count, tables grow with the day, and a reading tests all of them. Past so many
+/// paths the readings lie the further apart the longer the day is, so that its time grows with the
+/// paths and not with their square.
+pub const EVERY: usize = 8_192;
 
-/// The statistics after a path, and what is usual at that sequence length.
-pub struct Reading {
-    pub stats: KLDivergenceStats,
-    pub usual: Option<BaselineStats>,
-    /// How many standard deviations the maximum or the sum is above the baseline.
-    pub deviations: Option<f64>,
-}
-
-/// A node, its divergence, and the child whose share has changed most.
-pub struct Moved {
-    pub node: Address,
-    pub divergence: f64,
-    pub child: Option<Share>,
-}
-
-/// A child's share of what its node was left for, now and by the prior; none for the ending.
-pub struct Share {
-    pub child: Option<Address>,
-    pub now: f64,
-    pub prior: f64,
-}
-
-/// A stretch of the day that drifts: path indexes, the worst of them, and the node to look at.
-pub struct Stretch {
-    pub first: usize,
-    pub last: usize,
-    pub worst: usize,
-    pub deviations: f64,
-    pub moved: Option<Moved>,
-}
-
-/// A baseline's size: sequences, paths of each, knots, the last of them.
-pub struct Trained {
-    pub sequences: usize,
-    pub paths: usize,
-    pub knots: usize,
-    pub last_knot: u32,
-}
-
-/// All that a report needs.
-pub struct Watched {
-    pub trained: Option<Trained>,
-    pub readings: Vec<Reading>,
-    pub stretches: Vec<Stretch>,
-    pub nodes: Vec<Moved>,
-    pub skipped: u32,
-}
-
-/// What is lent to readings.
-struct LentParts {
-    g: Vec<f64>,
-    d: Vec<f64>,
-    records: PriorRecords,
-}
-
-impl LentParts {
-    fn of(day: &Day) -> LentParts {
-        let (g, d) = match &day.tables {
-            TableRule::Gamma => {
-                let GammaTables { g, d } = gamma_tables(day.last_index().clamp(1, MAX_LAST as u64) as usize);
-                (g, d)
-            }
-            TableRule::Squares(last) => (0..=*last).map(|k| ((k * k) as f64, (4 * k) as f64)).unzip(),
-            TableRule::Numbers { g, d } => (g.values.clone(), d.values.clone()),
-        };
-        let mut records = PriorRecords::default();
-        for (node, prior) in &day.priors {
-            let children: Vec<(Address, u32)> =
-                prior.children.iter().map(|(child, count)| (*child, *count)).collect();
-            records.node(*node, prior.ends, &children);
-        }
-        LentParts { g, d, records }
-    }
-
-    fn tables(&self) -> Tables<'_> {
-        Tables::new(&self.g, &self.d)
-    }
-
-    fn priors(&self) -> Priors<'_> {
-        self.records.lent()
-    }
-
-    fn last_index(&self) -> u64 {
-        self.g.len() as u64 - 1
-    }
+/// Adds a path.
+pub fn add(tracker: &mut Tracker, steps: &[Address]) -> Result<(), Refusal> {
+    tracker.add_path(steps)
 }
 
 /// Runs the day; a refusal is told with the line to look at.
 pub fn watch(day: &Day) -> Result<Watched, Problem> {
-    let lent = LentParts::of(day);
-    let told_at = |path| told(day, lent.last_index(), path);
-    let (first, last) = day.paths.first().zip(day.paths.last()).expect("the reader wants a path");
-    let capacity = day.capacity.map_or_else(|| day.entries().min(MAX_ENTRIES), |capacity| capacity.value);
+    let mut lent = Lent::of(day);
+    let capacity = day.capacity.map_or(MAX_ENTRIES, |capacity| capacity.value);
     let mut book = vec![0; ENTRY_BYTES * capacity];
-    let (mut knots, mut values) = (vec![0; 1_024], vec![0.0; KNOT_VALUES * 1_024]);
-    let baseline = train(day, &lent, &mut book, &mut knots, &mut values)?;
-    let mut watched = Watched {
-        trained: baseline.map(|baseline| Trained {
-            sequences: day.sequences.len(),
-            paths: day.sequences[0].len(),
-            knots: baseline.knots.len(),
-            last_knot: baseline.knots.last().copied().unwrap_or(0),
-        }),
-        readings: Vec::new(),
-        stretches: Vec::new(),
-        nodes: Vec::new(),
-        skipped: 0,
-    };
+    let trained = train(day, &mut lent, &mut book)?;
     let mut queue = vec![0; PLACE_BYTES * day.window as usize];
-    let mut tracker = Tracker::open(day.window, &mut book, &mut queue).map_err(told_at(first))?;
+    let told_at = |index: usize| told(day, day.tables.last_index(), day.paths.line(index));
+    let tracker = Tracker::open(day.window, &mut book, &mut queue).map_err(told_at(0))?;
+    let mut run = Run {
+        day,
+        known: Known::of(day),
+        lent,
+        tracker,
+        counts: Counts::new(day, &day.paths, day.window),
+        trained: trained.as_ref(),
+        usual: (0, Usual::UNKNOWN),
+        stretches: Stretches::default(),
+        found: BTreeMap::new(),
+        new_endings: 0,
+        added: 0,
+        unread: None,
+    };
+    let mut places = Vec::with_capacity(day.paths.len());
     let mut steps = Steps::new("the day's paths", day.paths.len());
-    for (index, path) in day.paths.iter().enumerate() {
-        tracker.add_path(&path.steps).map_err(told_at(path))?;
-        let reading = read(&tracker, &lent, baseline).map_err(told_at(path))?;
-        if let Some(deviations) = reading.deviations.filter(|deviations| *deviations > day.drift) {
-            let worse = note(&mut watched.stretches, index, deviations);
-            if worse {
-                let moved = moved_nodes(&tracker, &lent, day).map_err(told_at(path))?.0;
-                let most = moved.into_iter().max_by(|one, other| one.divergence.total_cmp(&other.divergence));
-                watched.stretches.last_mut().expect("one was noted").moved = most;
-            }
-        }
-        watched.readings.push(reading);
+    for index in 0..day.paths.len() {
+        places.push(run.path(index).map_err(told_at(index))?);
         steps.at(index + 1);
     }
-    (watched.nodes, watched.skipped) = moved_nodes(&tracker, &lent, day).map_err(told_at(last))?;
-    Ok(watched)
-}
-
-/// The baseline of the training sequences, if there are any.
-fn train<'a>(
-    day: &Day,
-    lent: &LentParts,
-    book: &mut [u8],
-    knots: &'a mut [u32],
-    values: &'a mut [f64],
-) -> Result<Option<Baseline<'a>>, Problem> {
-    let n = day.sequences.first().map_or(0, Vec::len);
-    if n == 0 {
-        return Ok(None);
-    }
-    let place = |path: &Path| place_bytes(&path.steps);
-    let places: Vec<u8> = day.sequences.iter().flatten().flat_map(place).collect();
-    let rate = day.rate.map_or((n as u32 / 8).max(1), |rate| rate.value);
-    let sequences = Sequences { s: day.sequences.len() as u32, n: n as u32, rate, places: &places };
-    let trained = during("the training", || {
-        Baseline::train(lent.tables(), lent.priors(), sequences, book, knots, values)
-            .map_err(|refusal| where_stopped(day, lent, book, rate, refusal))
-    });
-    trained.map(Some)
-}
-
-/// A training tells no path, so its steps are taken again one by one, up to the one that is
-/// refused.
-fn where_stopped(day: &Day, lent: &LentParts, book: &mut [u8], rate: u32, stopped: Refusal) -> Problem {
-    let told_at = |path| told(day, lent.last_index(), path);
-    let first = day.sequences.iter().flatten().next().expect("there is something to train with");
-    let again = day.sequences.iter().try_for_each(|sequence| {
-        let mut tracker = Tracker::open(0, book, &mut []).map_err(told_at(first))?;
-        sequence.iter().zip(0_u32..).try_for_each(|(path, index)| {
-            tracker.add_path(&path.steps).map_err(told_at(path))?;
-            if index % rate == 0 {
-                tracker.kl_div_stats(lent.tables(), lent.priors()).map_err(told_at(path))?;
-            }
-            Ok(())
-        })
-    });
-    again.err().unwrap_or_else(|| told_at(first)(stopped))
-}
-
-fn read(tracker: &Tracker, lent: &LentParts, baseline: Option<Baseline>) -> Result<Reading, Refusal> {
-    let stats = tracker.kl_div_stats(lent.tables(), lent.priors())?;
-    let usual = match baseline.map(|baseline| baseline.stats(stats.sequence_length as u32)) {
-        // With one knot nothing is known past it.
-        None | Some(Err(Refusal::OneKnot)) => None,
-        Some(usual) => Some(usual?),
-    };
-    let deviations = usual.filter(|_| stats.number > 0).and_then(|usual| {
-        let above = [deviations(stats.maximum, usual.maximum), deviations(stats.sum, usual.sum)];
-        above.into_iter().flatten().reduce(f64::max)
-    });
-    Ok(Reading { stats, usual, deviations })
-}
-
-/// How many standard deviations a figure lies above its mean; none where that says nothing.
-pub fn deviations(figure: f64, usual: MeanVariance) -> Option<f64> {
-    let spread = usual.variance.sqrt();
-    Some((figure - usual.mean) / spread)
-        .filter(|_| spread.is_finite() && spread > 0.0 && usual.mean.is_finite())
-}
-
-/// Adds a drifting path to the last stretch or begins one; true where it is its worst so far.
-fn note(stretches: &mut Vec<Stretch>, index: usize, deviations: f64) -> bool {
-    match stretches.last_mut().filter(|stretch| index <= stretch.last + GAP) {
-        Some(stretch) => {
-            stretch.last = index;
-            let worse = deviations > stretch.deviations;
-            if worse {
-                (stretch.worst, stretch.deviations) = (index, deviations);
-            }
-            worse
-        }
-        None => {
-            let (first, last, worst) = (index, index, index);
-            stretches.push(Stretch { first, last, worst, deviations, moved: None });
-            true
+    if let Some(index) = run.unread {
+        places[index] = run.read(index).map_err(told_at(index))?;
+        if index + 1 < places.len() {
+            run.stretches.unjudged(index + 1);
         }
     }
+    let (nodes, more_nodes, skipped) = run.nodes().map_err(told_at(day.paths.len() - 1))?;
+    let new_endings = [run.new_endings, run.known.endings];
+    let (stretches, found) = (run.stretches.done(), run.found.into_values().collect());
+    Ok(Watched { trained, places, stretches, found, new_endings, nodes, more_nodes, skipped })
 }
 
-/// All nodes with their divergences, and how many have no prior.
-fn moved_nodes(tracker: &Tracker, lent: &LentParts, day: &Day) -> Result<(Vec<Moved>, u32), Refusal> {
-    let room = day.priors.len();
-    let (mut addresses, mut figures) = (vec![0; Address::BYTES * room], vec![0.0; room]);
-    let mut output = Output { addresses: &mut addresses, figures: &mut figures };
-    let list = tracker.all_node_kl(lent.tables(), lent.priors(), &mut output)?;
-    let nodes: Vec<(Address, f64)> = output.places(list.places).collect();
-    let moved = |(node, divergence): (Address, f64)| {
-        Ok(Moved { node, divergence, child: most_moved(tracker, day, node)? })
-    };
-    Ok((nodes.into_iter().map(moved).collect::<Result<_, Refusal>>()?, list.skipped))
+/// A day as it is run.
+struct Run<'a> {
+    day: &'a Day,
+    known: Known<'a>,
+    lent: Lent,
+    tracker: Tracker<'a>,
+    counts: Counts<'a>,
+    trained: Option<&'a Trained>,
+    /// What is usual at the length that was asked for last.
+    usual: (u64, Usual),
+    stretches: Stretches,
+    found: BTreeMap<known::NeverSeen, known::Found>,
+    new_endings: usize,
+    /// Paths that are added.
+    added: usize,
+    /// The last path that is added, if it is not read, and how many there are since a reading.
+    unread: Option<usize>,
 }
 
-/// The child, or the ending, whose share in the window differs most from the prior's.
-fn most_moved(tracker: &Tracker, day: &Day, node: Address) -> Result<Option<Share>, Refusal> {
-    let Some(prior) = day.priors.get(&node) else {
-        return Ok(None);
-    };
-    let room = prior.children.len();
-    let (mut addresses, mut figures) = (vec![0; Address::BYTES * room], vec![0.0; room]);
-    let mut output = Output { addresses: &mut addresses, figures: &mut figures };
-    let Some(vector) = tracker.evidence_prob_vector(node, &mut output)? else {
-        return Ok(None);
-    };
-    let seen: Vec<(Address, f64)> = output.places(vector.places).collect();
-    let total = prior.total() as f64;
-    let share =
-        |child: &Address| seen.iter().find(|(seen, _)| seen == child).map_or(0.0, |(_, share)| *share);
-    let ending = Share { child: None, now: vector.ending, prior: f64::from(prior.ends) / total };
-    let children = prior.children.iter().map(|(child, count)| Share {
-        child: Some(*child),
-        now: share(child),
-        prior: f64::from(*count) / total,
-    });
-    let change = |share: &Share| (share.now - share.prior).abs();
-    Ok(children.chain([ending]).reduce(|one, other| if change(&other) > change(&one) { other } else { one }))
+impl Run<'_> {
+    /// Takes a path.
+    fn path(&mut self, index: usize) -> Result<Place, Refusal> {
+        if let Some(why) = self.left_out(index)? {
+            self.stretches.unjudged(index);
+            return Ok(Place::LeftOut(why));
+        }
+        self.counts.add(index);
+        self.added += 1;
+        let steps = self.day.paths.steps(index);
+        self.new_endings += usize::from(self.known.new_ending(steps).is_some());
+        if self.day.window == 0 && !self.added.is_multiple_of(1 + self.added / EVERY) {
+            self.unread = Some(index);
+            return Ok(Place::Unread);
+        }
+        self.read(index)
+    }
+
+    /// Adds the path, unless it is to be left out.
+    fn left_out(&mut self, index: usize) -> Result<Option<LeftOut>, Refusal> {
+        let steps = self.day.paths.steps(index);
+        let never_seen = self.known.never_seen(steps);
+        if !never_seen.is_empty() {
+            known::note(&mut self.found, index, &never_seen);
+            return Ok(Some(LeftOut::NeverSeen));
+        }
+        if let Some(node) = self.counts.past_end(index, self.lent.last_index()) {
+            return Ok(Some(LeftOut::PastTables(node)));
+        }
+        match add(&mut self.tracker, steps) {
+            Err(Refusal::BookFull) => Ok(Some(LeftOut::BookFull)),
+            Err(Refusal::PathsFull) => Ok(Some(LeftOut::PathsFull)),
+            added => added.map(|()| None),
+        }
+    }
+
+    /// Reads the statistics after a path and judges them.
+    fn read(&mut self, index: usize) -> Result<Place, Refusal> {
+        self.unread = None;
+        let greatest = self.counts.greatest();
+        self.lent.reach(greatest);
+        let stats = self.tracker.kl_div_stats(self.lent.tables(greatest), self.lent.priors())?;
+        let usual = self.usual_at(stats.sequence_length);
+        let reading = Reading::of(stats, self.counts.visits(), usual, self.day.drift);
+        match reading.judged {
+            Judged::Calm => self.stretches.calm(index),
+            Judged::Not(_) => self.stretches.unjudged(index),
+            Judged::Drift(deviations) => {
+                if self.stretches.drift(index, deviations) {
+                    let moved = self.most_moved()?;
+                    self.stretches.look_at(moved);
+                }
+            }
+        }
+        Ok(Place::Read(reading))
+    }
+
+    /// What is usual at a length. A full window asks for one length over and over.
+    fn usual_at(&mut self, length: u64) -> Usual {
+        if let (Some(trained), true) = (self.trained, self.usual.0 != length) {
+            self.usual = (length, trained.usual(length));
+        }
+        self.usual.1
+    }
+
+    /// The node with the greatest divergence.
+    fn most_moved(&self) -> Result<Option<moved::Moved>, Refusal> {
+        let (nodes, _) = moved::divergences(&self.tracker, &self.lent, self.counts.greatest(), self.day)?;
+        nodes.first().map(|node| moved::moved(&self.tracker, self.day, *node)).transpose()
+    }
+
+    /// The nodes with the greatest divergences, how many more there are, and how many have no
+    /// prior.
+    fn nodes(&mut self) -> Result<(Vec<moved::Moved>, usize, u32), Refusal> {
+        let greatest = self.counts.greatest();
+        self.lent.reach(greatest);
+        let (nodes, skipped) = moved::divergences(&self.tracker, &self.lent, greatest, self.day)?;
+        let shown = nodes.iter().take(NODES).map(|node| moved::moved(&self.tracker, self.day, *node));
+        let more = nodes.len().saturating_sub(NODES);
+        Ok((shown.collect::<Result<_, Refusal>>()?, more, skipped))
+    }
 }
 
 #[cfg(test)]
 mod tests {
-    use super::watch;
-    use crate::day::{read, Problem};
+    use super::{add, watch, EVERY};
+    use crate::day::{Day, MAX_ENTRIES};
+    use crate::lent::Lent;
+    use crate::mistakes::Problem;
+    use crate::reader::read;
+    use crate::report::report;
+    use crate::watched::{LeftOut, Place, Reading, Verdict, Watched};
+    use teakpool::{Address, Tracker, ENTRY_BYTES, PLACE_BYTES};
 
-    fn outcome(text: &str) -> Result<(), (usize, String)> {
-        let day = read(text.as_bytes()).expect("every line can be taken");
-        watch(&day).map(|_| ()).map_err(|Problem { line, text }| (line, text))
+    const KIT: &str = "tables squares 7\nprior 1/7 1 0/7 2 0/9 3\n";
+
+    fn day(text: &str) -> Day {
+        read(text.as_bytes()).expect("every line can be taken")
+    }
+
+    fn watched(text: &str) -> Watched {
+        watch(&day(text)).expect("the day can be run")
     }
 
     fn problem(text: &str) -> (usize, String) {
-        outcome(text).expect_err("a path cannot be taken")
+        let Problem { line, text } = watch(&day(text)).err().expect("a training path cannot be taken");
+        (line, text)
     }
 
-    const KIT: &str = "tables squares 7\nprior 1/7 1 0/7 2 0/9 3\n";
+    /// Indexes of the paths that are left out, and why.
+    fn left_out(watched: &Watched) -> Vec<(usize, LeftOut)> {
+        let place = |(index, place): (usize, &Place)| match place {
+            Place::LeftOut(why) => Some((index, *why)),
+            _ => None,
+        };
+        watched.places.iter().enumerate().filter_map(place).collect()
+    }
+
+    /// The lines of a report that have these words.
+    fn lines(text: &str, words: &str) -> Vec<String> {
+        let day = day(text);
+        let report = report("a day", &day, &watch(&day).expect("the day can be run"));
+        report.lines().filter(|line| line.contains(words)).map(|line| line.trim().to_string()).collect()
+    }
 
     /// Paths of 64 new steps each, so of 127 entries: the first 129 fit in a book.
     fn many_nodes(paths: u32) -> String {
@@ -286,12 +222,15 @@ mod tests {
     }
 
     #[test]
-    fn a_path_past_the_tables() {
-        let day = format!("{}day\npath 1/7 0/9\npath 0/9\npath 1/7\n", KIT);
-        let text = "the counts of 1/7, in its prior and in the paths up to this one, pass 7, \
-                    the last index of the tables";
-        assert_eq!(problem(&day), (6, text.to_string()));
-        assert_eq!(outcome(&format!("window 1\n{}", day)), Ok(()));
+    fn a_path_past_the_tables_is_left_out_and_told() {
+        let day = format!("{}day\npath 1/7 0/9\npath 0/9\npath 1/7\npath 0/9\n", KIT);
+        let node = Address::new(1, 7);
+        assert_eq!(left_out(&watched(&day)), [(2, LeftOut::PastTables(node))]);
+        assert_eq!(watched(&day).verdict(), Verdict::NotAllJudged);
+        let told =
+            "not judged at path 3: left out, since the counts of 1/7 would pass 7, where the tables end";
+        assert_eq!(lines(&day, "left out, since"), [told]);
+        assert_eq!(left_out(&watched(&format!("window 1\n{}", day))), []);
     }
 
     #[test]
@@ -302,26 +241,96 @@ mod tests {
         assert_eq!(problem(&training(1)).0, 10);
         // With this rate the second path of a sequence is not read, the third is.
         assert_eq!(problem(&training(2)).0, 11);
-        assert_eq!(outcome(&training(3)), Ok(()));
+        watched(&training(3));
     }
 
     #[test]
-    fn a_prior_past_the_tables() {
-        let prior = "prior 0/1 1\nprior 0/2 2000000\n";
-        let text = "the counts of this prior come to 2000000, and the last index of the tables is 1048575";
-        assert_eq!(problem(&format!("{}day\npath 0/1\npath 0/2", prior)), (2, text.to_string()));
-        assert_eq!(problem(&format!("{}sequence\npath 0/2\nday\npath 0/1", prior)), (2, text.to_string()));
-        assert_eq!(outcome(&format!("{}day\npath 0/1", prior)), Ok(()));
-        assert_eq!(problem("tables numbers\ng 0 0\nd 0 0\nprior 0/1 1\nday\npath 0/1").0, 4);
-    }
-
-    #[test]
-    fn a_book_that_is_too_small() {
-        let text = "up to this path there are over 16384 nodes and transitions, more than a book holds";
-        assert_eq!(outcome(&format!("day\n{}", many_nodes(129))), Ok(()));
-        assert_eq!(problem(&format!("day\n{}", many_nodes(131))), (131, text.to_string()));
+    fn a_path_that_the_book_has_no_room_for_is_left_out_and_told() {
+        assert_eq!(left_out(&watched(&format!("day\n{}", many_nodes(129)))), []);
+        let day = format!("day\n{}path 0/0 0/1\n", many_nodes(131));
+        assert_eq!(left_out(&watched(&day)), [(129, LeftOut::BookFull), (130, LeftOut::BookFull)]);
+        let told = "not judged from path 130 to path 131: left out, since the book is full: it holds 16384 \
+                    nodes and transitions";
+        assert_eq!(lines(&day, "left out, since"), [told]);
         let (few, many) = ("path 0/0\n".repeat(131), many_nodes(131));
         let training = format!("sequence\n{}sequence\n{}day\npath 0/0", few, many);
+        let text = "up to this path there are over 16384 nodes and transitions, more than a book holds";
         assert_eq!(problem(&training), (263, text.to_string()));
+    }
+
+    #[test]
+    fn a_path_that_was_never_seen_is_a_finding_and_the_rest_is_read() {
+        let head = "name 1/7 the wheel\nprior 1/7 1 0/7 2 0/9 3\n\
+                    sequence\npath 1/7\npath 1/7 0/7\nsequence\npath 1/7 0/9\npath 1/7\nday\n";
+        let day = format!("{}path 1/7 0/9\nmark noon\npath 1/7 0/8\npath 1/7\npath 1/7 0/8\n", head);
+        let watched = watched(&day);
+        assert_eq!(left_out(&watched), [(1, LeftOut::NeverSeen), (3, LeftOut::NeverSeen)]);
+        assert_eq!(watched.verdict(), Verdict::Drift);
+        assert_eq!(watched.readings().map(|(index, _)| index).collect::<Vec<usize>>(), [0, 2]);
+        let told = "path 2 (line 12, noon), step 1, and 1 more path up to path 4 (line 14, noon): \
+                    1/7 (the wheel) goes on to 0/8, which its prior does not have";
+        assert_eq!(lines(&day, "goes on to"), [told]);
+        assert_eq!(
+            lines(&day, "Never seen"),
+            ["Never seen on a good day: 2 paths, which are left out of the figures"]
+        );
+        // A day of nothing else has a report too.
+        let only = format!("{}path 1/7 0/8\n", head);
+        assert_eq!(
+            lines(&only, "judged"),
+            ["judged: 0 of 1 path; 1 path left out", "not known: nothing could be judged"]
+        );
+    }
+
+    #[test]
+    fn a_day_that_meets_no_prior_is_not_judged() {
+        // Two sequences that do not meet one either.
+        let training = "sequence\npath 2/2\nsequence\npath 2/2\n";
+        for prior in ["", "prior 1/7 1 0/7 2\n"] {
+            let day = format!("{}{}day\npath 2/2\npath 2/2\n", prior, training);
+            assert_eq!(watched(&day).verdict(), Verdict::NotAllJudged);
+            let told = "not judged from path 1 on: no node that has a prior is in the window";
+            assert_eq!(lines(&day, "not judged from"), [told]);
+        }
+    }
+
+    #[test]
+    fn a_reading_is_the_same_however_much_of_the_tables_is_lent() {
+        let mut long = Lent::of(&day(include_str!("../../../days/example.txt")));
+        long.reach(100_000);
+        for window in [0, 7, 40] {
+            let day = Day { window, ..day(include_str!("../../../days/example.txt")) };
+            let watched = watch(&day).expect("the day can be run");
+            let (mut book, mut queue) = (vec![0; ENTRY_BYTES * MAX_ENTRIES], vec![0; PLACE_BYTES * 40]);
+            let mut tracker = Tracker::open(window, &mut book, &mut queue).expect("the memory is enough");
+            for (index, steps) in day.paths.iter().enumerate() {
+                add(&mut tracker, steps).expect("the path fits");
+                let stats = tracker.kl_div_stats(long.tables(100_000), long.priors());
+                let Place::Read(Reading { stats: read, .. }) = &watched.places[index] else {
+                    panic!("path {} is not read", index);
+                };
+                assert_eq!(stats, Ok(*read));
+            }
+        }
+    }
+
+    #[test]
+    fn a_long_day_on_which_all_paths_count_is_read_at_places() {
+        let paths = 3 * EVERY;
+        let training = "sequence\npath 1/7 0/9\nsequence\npath 1/7\n";
+        let priors = "prior 1/7 1 0/7 2 0/9 3\n";
+        let day = format!("{}{}day\n{}", priors, training, "path 1/7 0/9\n".repeat(paths - 1) + "path 1/7\n");
+        let whole = watched(&day);
+        let read: Vec<usize> = whole.readings().map(|(index, _)| index).collect();
+        assert_eq!(read[..EVERY], (0..EVERY).collect::<Vec<usize>>());
+        let apart: Vec<usize> = read.windows(2).map(|pair| pair[1] - pair[0]).collect();
+        assert!(apart.iter().all(|apart| *apart <= 4), "{:?}", apart.iter().max());
+        assert_eq!(read.last(), Some(&(paths - 1)));
+        // Each covers what lies before it: the last has all paths.
+        let last = whole.readings().next_back().expect("the last path is read").1;
+        assert_eq!(last.stats.sequence_length as usize, paths);
+        assert_eq!(whole.tally().unread, paths - read.len());
+        // With a window every path is read.
+        assert_eq!(watched(&format!("window 9\n{}", day)).tally().unread, 0);
     }
 }

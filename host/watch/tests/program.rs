@@ -1,6 +1,7 @@
 //! The program as it is run: what it prints, and its exit status.
 
-use std::process::Command;
+use std::io::Write;
+use std::process::{Command, Stdio};
 
 /// Exit status, output and errors.
 fn watch(words: &[&str]) -> (Option<i32>, String, String) {
@@ -9,39 +10,74 @@ fn watch(words: &[&str]) -> (Option<i32>, String, String) {
     (output.status.code(), text(output.stdout), text(output.stderr))
 }
 
-/// What is told of a file with these bytes.
-fn told(name: &str, bytes: &[u8]) -> (Option<i32>, String) {
+/// A file with these bytes.
+fn file(name: &str, bytes: &[u8]) -> String {
     let file = format!("{}/{}", env!("CARGO_TARGET_TMPDIR"), name);
     std::fs::write(&file, bytes).expect("the file can be written");
+    file
+}
+
+/// What is told of a file with these bytes, without the file's name.
+fn told(name: &str, bytes: &[u8]) -> (Option<i32>, Vec<String>) {
+    let file = file(name, bytes);
     let (status, output, errors) = watch(&[&file]);
     assert_eq!(output, "");
-    let told = errors.strip_prefix(&format!("{}: ", file)).expect("the file is named first");
-    (status, told.to_string())
+    let told = |line: &str| line.strip_prefix(&format!("{}: ", file)).map(str::to_string);
+    (status, errors.lines().map(|line| told(line).expect("the file is named first")).collect())
 }
 
 #[test]
-fn a_problem_is_told_with_the_file_and_the_line() {
-    let kit = "tables squares 7\nprior 1/7 1 0/7 2 0/9 3\n";
-    let cases = [
-        ("reading", "window 3\nwindow x\n".to_string(), "line 2: a window is wanted, not 'x'\n"),
-        (
-            "training",
-            format!("{}sequence\npath 1/7\npath 1/7\nday\npath 1/7\n", kit),
-            "line 5: the counts of 1/7, in its prior and in the paths up to this one, pass 7, \
-             the last index of the tables\n",
-        ),
-        (
-            "day",
-            format!("{}day\npath 1/7\npath 1/7\n", kit),
-            "line 5: the counts of 1/7, in its prior and in the paths up to this one, pass 7, \
-             the last index of the tables\n",
-        ),
-    ];
-    for (name, text, problem) in cases {
-        assert_eq!(told(name, text.as_bytes()), (Some(1), problem.to_string()));
-    }
-    let problem = "line 2: the byte 0xfc is no text; the file is to be saved as UTF-8\n";
-    assert_eq!(told("bytes", b"day\nmark gr\xfcn\npath 1/7\n"), (Some(1), problem.to_string()));
+fn mistakes_are_told_with_the_file_and_the_line() {
+    let lines = "window 3\ntables squares 7\nwindow x\nday\npath 1/7 x\n";
+    let mistakes =
+        ["line 3: 'window' is given already, in line 1", "line 5: an address SCALE/POINT is wanted, not 'x'"];
+    assert_eq!(told("reading", lines.as_bytes()), (Some(1), mistakes.map(str::to_string).to_vec()));
+    let training = "tables squares 7\nprior 1/7 1 0/7 2 0/9 3\nsequence\npath 1/7\npath 1/7\nday\npath 1/7\n";
+    let problem = "line 5: the counts of 1/7, in its prior and in the paths up to this one, pass 7, \
+                   the last index of the tables";
+    assert_eq!(told("training", training.as_bytes()), (Some(1), vec![problem.to_string()]));
+    let problem = "line 2: the byte 0xfc is no text; the file is to be saved as UTF-8";
+    let bytes = b"day\nmark gr\xfcn\npath 1/7\n";
+    assert_eq!(told("bytes", bytes), (Some(1), vec![problem.to_string()]));
+    let many = "path\n".repeat(30);
+    let (status, lines) = told("many", many.as_bytes());
+    assert_eq!((status, lines.len()), (Some(1), 21));
+    assert_eq!(lines[20], "and 11 more mistakes");
+}
+
+#[test]
+fn a_dash_is_standard_input() {
+    let day = std::fs::read("../../days/example.txt").expect("the example is there");
+    let mut child = Command::new(env!("CARGO_BIN_EXE_watch"))
+        .arg("-")
+        .stdin(Stdio::piped())
+        .stdout(Stdio::piped())
+        .spawn()
+        .expect("the program runs");
+    child.stdin.take().expect("it is piped").write_all(&day).expect("it is read");
+    let piped = child.wait_with_output().expect("it ends");
+    let (status, output, _) = watch(&["../../days/example.txt"]);
+    assert_eq!(piped.status.code(), status);
+    let without_name = |text: &str| text.split_once('\n').expect("a line with the name").1.to_string();
+    assert_eq!(without_name(&String::from_utf8_lossy(&piped.stdout)), without_name(&output));
+}
+
+/// Priors, two training sequences that differ, and a day.
+fn trained(day: &str) -> String {
+    let sequences = "sequence\npath 1/7 0/7\npath 1/7\nsequence\npath 1/7 0/9\npath 1/7 0/9\n";
+    format!("prior 1/7 1 0/7 2 0/9 3\n{}day\n{}", sequences, day)
+}
+
+#[test]
+fn the_exit_status_tells_drift_and_what_is_not_judged() {
+    let status = |name: &str, text: &str| watch(&[&file(name, text.as_bytes())]).0;
+    assert_eq!(status("calm", &trained("path 1/7 0/7\n")), Some(0));
+    assert_eq!(status("drift", &format!("drift 0\n{}", trained("path 1/7 0/7\npath 1/7 0/7\n"))), Some(3));
+    assert_eq!(status("never_seen", &trained("path 1/7 0/8\n")), Some(3));
+    assert_eq!(status("far", &trained(&"path 1/7 0/7\npath 1/7 0/9\n".repeat(9))), Some(4));
+    assert_eq!(status("untrained", "day\npath 1/7\n"), Some(4));
+    assert_eq!(status("mistake", "day\n"), Some(1));
+    assert_eq!(watch(&["../../days/example.txt"]).0, Some(3));
 }
 
 #[test]
@@ -50,7 +86,35 @@ fn a_missing_file_and_wrong_arguments() {
     assert_eq!(status, Some(1));
     assert!(errors.starts_with("none/none: cannot be read: "), "{}", errors);
     assert_eq!(watch(&[]).0, Some(2));
+    assert_eq!(watch(&["one", "two"]).0, Some(2));
+    let (status, _, errors) = watch(&["--htlm", "page", "day"]);
+    assert_eq!((status, &errors[..]), (Some(2), "'--htlm' is no option; ./run --help tells more\n"));
     let (status, output, _) = watch(&["--help"]);
     assert_eq!(status, Some(0));
-    assert!(output.ends_with(include_str!("../src/format.txt")));
+    assert_eq!(output, [include_str!("../src/usage.txt"), include_str!("../src/format.txt")].join("\n"));
+}
+
+#[test]
+fn priors_are_made_of_good_days_and_can_be_read() {
+    let monday = file("monday", b"day\npath 1/7 0/7\npath 1/7\n");
+    let tuesday = file("tuesday", b"day\npath 1/7 0/9\npath 1/7 0/7\n");
+    let (status, priors, _) = watch(&["priors", &monday, &tuesday]);
+    assert_eq!(status, Some(0));
+    let lines = "# Priors by the counts of 4 paths; good days: 2\nprior 0/7 2\nprior 0/9 1\nprior 1/7 1  0/7 2  0/9 1\n";
+    assert_eq!(priors, lines);
+    // What they do not have is a finding.
+    let day = file("priors_day", format!("{}day\npath 1/7 0/8\n", priors).as_bytes());
+    let (status, report, _) = watch(&[&day]);
+    assert_eq!(status, Some(3));
+    assert!(report.contains("1/7 goes on to 0/8, which its prior does not have"), "{}", report);
+    // The mistakes of all files are told.
+    let wrong = file("wrong", b"day\npath 1/7 x\n");
+    let (status, output, errors) = watch(&["priors", &wrong, &monday, "none/none"]);
+    assert_eq!((status, &output[..]), (Some(1), ""));
+    assert_eq!(errors.lines().count(), 2, "{}", errors);
+    let many: String = (0..65).map(|point| format!("path 1/0 0/{}\n", point)).collect();
+    let wide = file("wide", format!("day\n{}", many).as_bytes());
+    let (status, _, errors) = watch(&["priors", &wide]);
+    assert_eq!(status, Some(1));
+    assert_eq!(errors, "priors: 1/0 goes on to 65 children; a prior has at most 64\n");
 }

@@ -1,0 +1,106 @@
+//! What shows only when all lines of a day are read: tables of one length, priors that leave room
+//! in them, a rate and a capacity that fit the paths, and a training that its priors allow.
+
+use crate::day::{Day, Paths, Setting, TableRule, MAX_KNOTS};
+use crate::mistakes::Mistakes;
+
+/// Tests that the lines of a day fit together; `tables_read` is false where a line of the tables
+/// is wrong already.
+pub fn together(day: &Day, tables_read: bool, mistakes: &mut Mistakes) {
+    if tables_read && whole_tables(day, mistakes) {
+        room_in_tables(day, mistakes);
+    }
+    few_knots(day, mistakes);
+    enough_capacity(day, mistakes);
+    known_training(day, mistakes);
+}
+
+/// Given tables have equally many numbers, at least those of index 0 and 1.
+fn whole_tables(day: &Day, mistakes: &mut Mistakes) -> bool {
+    let TableRule::Numbers { g, d } = &day.tables else {
+        return true;
+    };
+    let (in_g, in_d) = (g.values.len(), d.values.len());
+    let line = if in_g < in_d { g.line } else { d.line };
+    if in_g != in_d {
+        let text = format!("the lines 'g' have {} numbers, the lines 'd' {}; both need as many", in_g, in_d);
+        mistakes.add(line, text);
+        return false;
+    }
+    if in_g < 2 {
+        let text = "the lines 'g' and the lines 'd' need two numbers at least, of index 0 and 1";
+        mistakes.add(line, text.to_string());
+        return false;
+    }
+    true
+}
+
+/// A visited node's prior leaves room in the tables for one path at least.
+fn room_in_tables(day: &Day, mistakes: &mut Mistakes) {
+    let last_index = day.tables.last_index();
+    for (node, prior) in day.priors.iter().filter(|(_, prior)| prior.total() >= last_index) {
+        if each_history(day).any(|paths| paths.iter().any(|steps| steps.contains(node))) {
+            let text = format!(
+                "the counts of this prior come to {}, and the last index of the tables is {}",
+                prior.total(),
+                last_index
+            );
+            mistakes.add(prior.line, text);
+        }
+    }
+}
+
+/// A given rate leaves few enough knots.
+fn few_knots(day: &Day, mistakes: &mut Mistakes) {
+    let (paths, Some(Setting { line, value })) = (day.training_paths(), day.rate) else {
+        return;
+    };
+    let knots = paths.div_ceil(value as usize);
+    if knots > MAX_KNOTS {
+        let text = format!(
+            "a rate of {} gives {} knots in sequences of {} paths, and there are at most {}; \
+             {} is the least rate for them",
+            value,
+            knots,
+            paths,
+            MAX_KNOTS,
+            paths.div_ceil(MAX_KNOTS)
+        );
+        mistakes.add(line, text);
+    }
+}
+
+/// A given capacity holds all nodes and transitions of the day and of each sequence.
+fn enough_capacity(day: &Day, mistakes: &mut Mistakes) {
+    let Some(Setting { line, value }) = day.capacity else {
+        return;
+    };
+    let entries = each_history(day).map(Paths::entries).max().unwrap_or(0);
+    if entries > value {
+        let text = format!("a capacity of {} is too small: the paths need {} entries", value, entries);
+        mistakes.add(line, text);
+    }
+}
+
+/// In the training a node with a prior goes on to children that the prior has: a training that
+/// meets another is stopped with 14. In the day such a path is a finding.
+fn known_training(day: &Day, mistakes: &mut Mistakes) {
+    for sequence in &day.sequences {
+        for (index, steps) in sequence.iter().enumerate() {
+            let missing = |pair: &&[_]| {
+                day.priors.get(&pair[0]).is_some_and(|prior| !prior.children.contains_key(&pair[1]))
+            };
+            if let Some(pair) = steps.windows(2).find(missing) {
+                let text = format!(
+                    "{} goes on to {}, which its prior does not have; a training is made of good days",
+                    pair[0], pair[1]
+                );
+                mistakes.add(sequence.line(index), text);
+            }
+        }
+    }
+}
+
+fn each_history(day: &Day) -> impl Iterator<Item = &Paths> {
+    day.sequences.iter().chain([&day.paths])
+}

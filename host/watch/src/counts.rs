@@ -1,0 +1,136 @@
+//! How often the nodes that have a prior stand in the window, as it slides over the paths. A
+//! reading looks into the tables as far as a node's prior total and its visits in the window
+//! together, and tests every entry that it is lent; so these counts say how much has to be lent,
+//! and which path would pass the tables' end.
+
+use crate::day::{Day, Paths};
+use std::collections::{HashMap, VecDeque};
+use teakpool::Address;
+
+/// A node with a prior: the prior's total, and its visits in the window.
+struct Node {
+    prior: u64,
+    visits: u64,
+}
+
+/// The counts, with the paths that are in the window.
+pub struct Counts<'a> {
+    paths: &'a Paths,
+    window: usize,
+    nodes: HashMap<Address, Node>,
+    greatest_prior: u64,
+    /// Indexes of the paths in the window; none are kept where all paths count.
+    held: VecDeque<usize>,
+    visits: u64,
+    greatest: u64,
+}
+
+impl<'a> Counts<'a> {
+    /// Nothing is counted yet; a window of 0 keeps all.
+    pub fn new(day: &Day, paths: &'a Paths, window: u32) -> Counts<'a> {
+        let node = |prior| Node { prior, visits: 0 };
+        let nodes: HashMap<Address, Node> =
+            day.priors.iter().map(|(address, prior)| (*address, node(prior.total()))).collect();
+        let greatest_prior = nodes.values().map(|node| node.prior).max().unwrap_or(0);
+        let (window, held) = (window as usize, VecDeque::new());
+        Counts { paths, window, nodes, greatest_prior, held, visits: 0, greatest: 1 }
+    }
+
+    /// The path that leaves the window when one is added.
+    fn leaving(&self) -> &'a [Address] {
+        let full = self.window > 0 && self.held.len() == self.window;
+        self.held.front().filter(|_| full).map_or(&[], |index| self.paths.steps(*index))
+    }
+
+    /// The first node, ascending, whose prior and visits would pass `last_index` with this path.
+    pub fn past_end(&self, index: usize, last_index: u64) -> Option<Address> {
+        let steps = self.paths.steps(index);
+        if self.greatest_prior + self.visits + steps.len() as u64 <= last_index {
+            return None;
+        }
+        let leaving = self.leaving();
+        let times = |steps: &[Address], node: &Address| steps.iter().filter(|step| *step == node).count();
+        let passes = |address: &&Address| {
+            self.nodes.get(address).is_some_and(|node| {
+                let after = node.prior + node.visits + times(steps, address) as u64;
+                after - times(leaving, address) as u64 > last_index
+            })
+        };
+        steps.iter().filter(passes).min().copied()
+    }
+
+    /// Counts a path, and takes the one that leaves the window away.
+    pub fn add(&mut self, index: usize) {
+        let (steps, leaving) = (self.paths.steps(index), self.leaving());
+        for step in steps {
+            if let Some(node) = self.nodes.get_mut(step) {
+                node.visits += 1;
+                self.visits += 1;
+            }
+        }
+        for step in leaving {
+            if let Some(node) = self.nodes.get_mut(step) {
+                node.visits -= 1;
+                self.visits -= 1;
+            }
+        }
+        let together = steps.iter().filter_map(|step| self.nodes.get(step));
+        let most = together.map(|node| node.prior + node.visits).max().unwrap_or(0);
+        self.greatest = self.greatest.max(most);
+        if self.window > 0 {
+            if self.held.len() == self.window {
+                self.held.pop_front();
+            }
+            self.held.push_back(index);
+        }
+    }
+
+    /// Visits of nodes with a prior in the window.
+    pub fn visits(&self) -> u64 {
+        self.visits
+    }
+
+    /// The greatest index that a table was read at so far; 1 at least, as tables have it.
+    pub fn greatest(&self) -> u64 {
+        self.greatest
+    }
+}
+
+#[cfg(test)]
+mod tests {
+    use super::Counts;
+    use crate::reader::read;
+    use teakpool::Address;
+
+    const DAY: &str = "prior 1/7 1 0/7 2 0/9 3\nprior 0/9 4\nday\n\
+                       path 1/7 0/9\npath 1/7 1/7 0/8\npath 0/9\npath 1/7\n";
+
+    fn greatest(window: u32) -> Vec<(u64, u64)> {
+        let day = read(DAY.as_bytes()).expect("the lines can be taken");
+        let mut counts = Counts::new(&day, &day.paths, window);
+        let mut after = |index| {
+            counts.add(index);
+            (counts.visits(), counts.greatest())
+        };
+        (0..day.paths.len()).map(&mut after).collect()
+    }
+
+    #[test]
+    fn the_window_slides_over_the_visits() {
+        assert_eq!(greatest(0), [(2, 7), (4, 9), (5, 9), (6, 10)]);
+        assert_eq!(greatest(1), [(2, 7), (2, 8), (1, 8), (1, 8)]);
+        assert_eq!(greatest(2), [(2, 7), (4, 9), (3, 9), (2, 9)]);
+    }
+
+    #[test]
+    fn a_path_that_passes_the_end_is_found_before_it_is_added() {
+        let day = read(DAY.as_bytes()).expect("the lines can be taken");
+        let mut counts = Counts::new(&day, &day.paths, 1);
+        assert_eq!(counts.past_end(0, 6), Some(Address::new(1, 7)));
+        assert_eq!(counts.past_end(0, 7), None);
+        counts.add(0);
+        // The path before it leaves, so two visits are left.
+        assert_eq!(counts.past_end(1, 7), Some(Address::new(1, 7)));
+        assert_eq!(counts.past_end(1, 8), None);
+    }
+}

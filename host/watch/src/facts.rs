@@ -1,0 +1,143 @@
+//! What a day is and what it is held against, and what makes the judgement weaker than it looks:
+//! the first lines of the report and of the page.
+
+use crate::day::Day;
+use crate::others::Others;
+use crate::training::Trained;
+use crate::usual::FAR;
+use crate::watched::{Tally, Watched};
+use crate::words::number;
+use crate::work::EVERY;
+
+/// Training sequences below which the spread is called rough.
+const FEW_SEQUENCES: u32 = 8;
+
+/// What the day is and what it is held against, a line each.
+pub fn facts(day: &Day, watched: &Watched) -> Vec<String> {
+    let mut facts = vec![paths(day), baseline(watched)];
+    facts.extend(others(day, watched));
+    facts.push(judged(watched));
+    facts
+}
+
+/// How many paths there are, and which count.
+fn paths(day: &Day) -> String {
+    let window = match day.window {
+        0 => "all of them count".to_string(),
+        window => format!("the last {} count", window),
+    };
+    format!("paths: {}, {}; nodes with a prior: {}", day.paths.len(), window, day.priors.len())
+}
+
+/// What the baseline was trained on.
+fn baseline(watched: &Watched) -> String {
+    match &watched.trained {
+        None => "no training sequences, so no baseline to hold it against".to_string(),
+        Some(trained) => format!(
+            "baseline: {} of {}, {}, the last at length {}",
+            number(trained.sequences as usize, "training sequence"),
+            number(trained.paths as usize, "path"),
+            number(trained.knots.len(), "knot"),
+            trained.last_knot()
+        ),
+    }
+}
+
+/// How much of the day is judged.
+fn judged(watched: &Watched) -> String {
+    let Tally { judged, unjudged, unread, left_out, .. } = watched.tally();
+    let what = if unread > 0 { "reading" } else { "path" };
+    if unjudged + left_out == 0 {
+        return format!("judged: all {}", number(judged, what));
+    }
+    let mut text = format!("judged: {} of {}", judged, number(judged + unjudged + left_out, what));
+    if left_out > 0 {
+        text.push_str(&format!("; {} left out", number(left_out, "path")));
+    }
+    if unjudged > 0 {
+        text.push_str(&format!("; {} without a judgement", unjudged));
+    }
+    text
+}
+
+/// How far the training's own days go.
+fn others(day: &Day, watched: &Watched) -> Option<String> {
+    let trained = watched.trained.as_ref()?;
+    trained.others.map(|Others { most, above }| {
+        format!(
+            "held against the others, a training sequence goes up to {:.1} deviations; {} of {} pass {}",
+            most, above, trained.sequences, day.drift
+        )
+    })
+}
+
+/// What makes the judgement weaker than it looks.
+pub fn warnings(day: &Day, watched: &Watched) -> Vec<String> {
+    let mut warnings = Vec::new();
+    if let Some(trained) = &watched.trained {
+        warnings.extend(training_warning(trained));
+        warnings.extend(knot_warning(day, watched, trained));
+    }
+    let Tally { unread, by_one_figure, .. } = watched.tally();
+    if unread > 0 {
+        warnings.push(format!(
+            "all paths count and there are many, so {} of them are not read one by one: past path {} \
+             the readings lie apart, and each covers the paths before it",
+            unread, EVERY
+        ));
+    }
+    if by_one_figure > 0 {
+        warnings.push(format!(
+            "at {} sum or maximum has no usable spread, and the other alone is judged",
+            number(by_one_figure, "reading")
+        ));
+    }
+    let [endings, in_training] = watched.new_endings;
+    if endings > 0 {
+        let trained = watched.trained.as_ref();
+        let of = trained.map_or(0, |trained| trained.sequences as usize * trained.paths as usize);
+        warnings.push(format!(
+            "{} where the prior has no ending ({} of {} in the training); the divergence leaves \
+             such endings out",
+            if endings == 1 { "1 path ends".to_string() } else { format!("{} paths end", endings) },
+            in_training,
+            of
+        ));
+    }
+    warnings
+}
+
+fn training_warning(trained: &Trained) -> Option<String> {
+    match trained.sequences {
+        1 => Some("one training sequence has no spread, so nothing can be judged".to_string()),
+        few if few < FEW_SEQUENCES => {
+            Some(format!("{} training sequences give a rough spread, and good days pass it too", few))
+        }
+        _ => None,
+    }
+}
+
+/// Where the window or the day goes past the last knot.
+fn knot_warning(day: &Day, watched: &Watched, trained: &Trained) -> Option<String> {
+    let last = trained.last_knot();
+    let longest = watched.readings().map(|(_, reading)| reading.stats.sequence_length).max()?;
+    if longest <= u64::from(last) || trained.sequences == 1 {
+        return None;
+    }
+    if trained.knots.len() == 1 {
+        return Some(format!(
+            "the training has one knot, at length {} (rate {}, sequences of {} paths), so nothing \
+             can be judged past it",
+            last, trained.rate, trained.paths
+        ));
+    }
+    let what = match day.window {
+        0 => format!("the day, of {},", number(longest as usize, "path")),
+        window => format!("the window, of {},", number(window as usize, "path")),
+    };
+    Some(format!(
+        "{} goes past the last knot, at length {}: from there mean and spread are carried on, up to {} \
+         times that length",
+        what, last, FAR
+    ))
+}

@@ -1,0 +1,80 @@
+//! The nodes that moved: a node's divergence, and its shares in the window beside the prior's.
+
+use crate::day::Day;
+use crate::lent::Lent;
+use teakpool::{Address, Output, Refusal, Tracker};
+
+/// A node, its divergence, and where its paths went.
+#[derive(Debug)]
+pub struct Moved {
+    pub node: Address,
+    pub divergence: f64,
+    /// Children ascending, then the ending; none where the node is not in the window.
+    pub shares: Vec<Share>,
+}
+
+/// A child's share of what its node was left for, now and by the prior; none for the ending.
+#[derive(Debug, Clone, Copy)]
+pub struct Share {
+    pub child: Option<Address>,
+    pub now: f64,
+    pub prior: f64,
+}
+
+impl Share {
+    /// How much it differs.
+    pub fn change(&self) -> f64 {
+        (self.now - self.prior).abs()
+    }
+}
+
+impl Moved {
+    /// The share that differs most from the prior's.
+    pub fn most(&self) -> Option<&Share> {
+        self.shares.iter().reduce(|one, other| if other.change() > one.change() { other } else { one })
+    }
+}
+
+/// The divergences of all nodes in the book that have a prior, greatest first, and how many have
+/// none.
+pub fn divergences(
+    tracker: &Tracker,
+    lent: &Lent,
+    index: u64,
+    day: &Day,
+) -> Result<(Vec<(Address, f64)>, u32), Refusal> {
+    let room = day.priors.len();
+    let (mut addresses, mut figures) = (vec![0; Address::BYTES * room], vec![0.0; room]);
+    let mut output = Output { addresses: &mut addresses, figures: &mut figures };
+    let list = tracker.all_node_kl(lent.tables(index), lent.priors(), &mut output)?;
+    let mut nodes: Vec<(Address, f64)> = output.places(list.places).collect();
+    nodes.sort_by(|one, other| other.1.total_cmp(&one.1));
+    Ok((nodes, list.skipped))
+}
+
+/// A node with its shares.
+pub fn moved(tracker: &Tracker, day: &Day, (node, divergence): (Address, f64)) -> Result<Moved, Refusal> {
+    Ok(Moved { node, divergence, shares: shares(tracker, day, node)? })
+}
+
+fn shares(tracker: &Tracker, day: &Day, node: Address) -> Result<Vec<Share>, Refusal> {
+    let Some(prior) = day.priors.get(&node) else {
+        return Ok(Vec::new());
+    };
+    let room = prior.children.len();
+    let (mut addresses, mut figures) = (vec![0; Address::BYTES * room], vec![0.0; room]);
+    let mut output = Output { addresses: &mut addresses, figures: &mut figures };
+    let Some(vector) = tracker.evidence_prob_vector(node, &mut output)? else {
+        return Ok(Vec::new());
+    };
+    let seen: Vec<(Address, f64)> = output.places(vector.places).collect();
+    let total = prior.total() as f64;
+    let now = |child: &Address| seen.iter().find(|(seen, _)| seen == child).map_or(0.0, |(_, share)| *share);
+    let child = |(child, count): (&Address, &u32)| Share {
+        child: Some(*child),
+        now: now(child),
+        prior: f64::from(*count) / total,
+    };
+    let ending = Share { child: None, now: vector.ending, prior: f64::from(prior.ends) / total };
+    Ok(prior.children.iter().map(child).chain([ending]).collect())
+}

@@ -1,0 +1,176 @@
+//! The stretches of a day that drift. A stretch is over when enough readings behind it are judged
+//! and do not drift; what is not judged does not end it, and its end is then not known.
+
+use crate::moved::Moved;
+
+/// Drifting readings with fewer than this between them are one stretch.
+const GAP: usize = 5;
+
+/// How a stretch ends behind its last drifting reading.
+#[derive(Debug, Clone, Copy, PartialEq, Eq)]
+pub enum End {
+    /// The readings behind it do not drift.
+    Over,
+    /// It is the day's last.
+    DayEnds,
+    /// From the path with this index on nothing is judged for a while, or to the end of the day.
+    NotKnown(usize),
+}
+
+/// A stretch of the day that drifts: path indexes, the worst of them, and the node to look at.
+#[derive(Debug)]
+pub struct Stretch {
+    pub first: usize,
+    /// Paths right before the first are not judged, so that it may have begun earlier.
+    pub maybe_earlier: bool,
+    pub last: usize,
+    pub end: End,
+    pub worst: usize,
+    pub deviations: f64,
+    pub moved: Option<Moved>,
+}
+
+/// The stretches as the day goes by.
+#[derive(Debug, Default)]
+pub struct Stretches {
+    list: Vec<Stretch>,
+    /// The last stretch can still go on.
+    open: bool,
+    /// Readings behind it that are judged and do not drift.
+    calm: usize,
+    /// The first path behind it that does not drift, and the first that is not judged.
+    first_calm: Option<usize>,
+    first_unjudged: Option<usize>,
+    /// The path before this one was not judged.
+    after_unjudged: bool,
+}
+
+impl Stretches {
+    /// A reading drifts; true where it is the worst of its stretch so far.
+    pub fn drift(&mut self, index: usize, deviations: f64) -> bool {
+        let maybe_earlier = std::mem::take(&mut self.after_unjudged);
+        (self.calm, self.first_calm, self.first_unjudged) = (0, None, None);
+        match self.list.last_mut().filter(|_| self.open) {
+            Some(stretch) => {
+                stretch.last = index;
+                let worse = deviations > stretch.deviations;
+                if worse {
+                    (stretch.worst, stretch.deviations) = (index, deviations);
+                }
+                worse
+            }
+            None => {
+                self.open = true;
+                let (first, last, worst, end) = (index, index, index, End::Over);
+                let stretch = Stretch { first, maybe_earlier, last, end, worst, deviations, moved: None };
+                self.list.push(stretch);
+                true
+            }
+        }
+    }
+
+    /// A reading is judged and does not drift.
+    pub fn calm(&mut self, index: usize) {
+        self.after_unjudged = false;
+        self.first_calm.get_or_insert(index);
+        self.calm += 1;
+        if self.open && self.calm == GAP {
+            self.open = false;
+            let unjudged = self.first_unjudged.filter(|unjudged| Some(*unjudged) < self.first_calm);
+            self.end(unjudged.map_or(End::Over, End::NotKnown));
+        }
+    }
+
+    /// A path is not judged, or is left out.
+    pub fn unjudged(&mut self, index: usize) {
+        self.after_unjudged = true;
+        self.first_unjudged.get_or_insert(index);
+    }
+
+    /// What the node to look at is, for the worst reading of the last stretch.
+    pub fn look_at(&mut self, moved: Option<Moved>) {
+        if let Some(stretch) = self.list.last_mut() {
+            stretch.moved = moved;
+        }
+    }
+
+    /// The day is over.
+    pub fn done(mut self) -> Vec<Stretch> {
+        if self.open {
+            let over = if self.calm == 0 { End::DayEnds } else { End::Over };
+            self.end(self.first_unjudged.map_or(over, End::NotKnown));
+        }
+        self.list
+    }
+
+    fn end(&mut self, end: End) {
+        if let Some(stretch) = self.list.last_mut() {
+            stretch.end = end;
+        }
+    }
+}
+
+#[cfg(test)]
+mod tests {
+    use super::{End, Stretches};
+
+    /// First, last, end and worst of the stretches in a day: a digit drifts by as much, a dot is
+    /// calm, a question mark is not judged.
+    fn stretches(day: &str) -> Vec<(usize, usize, End, usize)> {
+        let mut stretches = Stretches::default();
+        for (index, letter) in day.chars().enumerate() {
+            match letter {
+                '.' => stretches.calm(index),
+                '?' => stretches.unjudged(index),
+                digit => {
+                    stretches.drift(index, f64::from(digit.to_digit(10).expect("a digit")));
+                }
+            }
+        }
+        let row = |stretch: super::Stretch| (stretch.first, stretch.last, stretch.end, stretch.worst);
+        stretches.done().into_iter().map(row).collect()
+    }
+
+    #[test]
+    fn few_calm_readings_do_not_end_a_stretch() {
+        assert_eq!(stretches("..47....6......"), [(2, 8, End::Over, 3)]);
+        assert_eq!(stretches("4.....5....."), [(0, 0, End::Over, 0), (6, 6, End::Over, 6)]);
+        assert_eq!(stretches("......"), []);
+    }
+
+    #[test]
+    fn the_end_of_the_day() {
+        assert_eq!(stretches("...45"), [(3, 4, End::DayEnds, 4)]);
+        assert_eq!(stretches("...45."), [(3, 4, End::Over, 4)]);
+    }
+
+    #[test]
+    fn what_is_not_judged_does_not_end_a_stretch() {
+        assert_eq!(stretches(".45???"), [(1, 2, End::NotKnown(3), 2)]);
+        assert_eq!(stretches(".45?????????6....."), [(1, 12, End::Over, 12)]);
+        assert_eq!(stretches(".45???......."), [(1, 2, End::NotKnown(3), 2)]);
+        // Calm right behind it, but not for long enough.
+        assert_eq!(stretches(".45..???"), [(1, 2, End::NotKnown(5), 2)]);
+        assert_eq!(stretches(".45..?....."), [(1, 2, End::Over, 2)]);
+    }
+
+    #[test]
+    fn it_may_have_begun_in_what_is_not_judged() {
+        let earlier = |day: &str| {
+            let mut stretches = Stretches::default();
+            for (index, letter) in day.chars().enumerate() {
+                match letter {
+                    '.' => stretches.calm(index),
+                    '?' => stretches.unjudged(index),
+                    _ => {
+                        stretches.drift(index, 4.0);
+                    }
+                }
+            }
+            stretches.done()[0].maybe_earlier
+        };
+        assert!(earlier("..??4"));
+        assert!(!earlier("??.4"));
+        assert!(!earlier("4?4"));
+    }
+}

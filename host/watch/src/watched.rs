@@ -1,0 +1,208 @@
+//! What the run of a day gives: a place for each path, and what is told of the day as a whole.
+
+use crate::known::Found;
+use crate::moved::Moved;
+use crate::stretches::Stretch;
+use crate::training::Trained;
+use crate::usual::{hold, Held, Usual, Why};
+use std::collections::BTreeMap;
+use teakpool::{Address, KLDivergenceStats};
+
+/// What became of a path.
+#[derive(Debug)]
+pub enum Place {
+    /// It is added, and the statistics are read after it.
+    Read(Reading),
+    /// It is added, and the next reading covers it: all paths count, and the day is long.
+    Unread,
+    /// It is not added.
+    LeftOut(LeftOut),
+}
+
+/// Why a path is not added.
+#[derive(Debug, Clone, Copy, PartialEq, Eq, PartialOrd, Ord)]
+pub enum LeftOut {
+    /// It does what was never seen, which is a finding.
+    NeverSeen,
+    /// With it the counts of this node would pass the tables' end.
+    PastTables(Address),
+    /// It has nodes or transitions for which the book has no room.
+    BookFull,
+    /// The tracker has taken as many paths as it can.
+    PathsFull,
+}
+
+/// The statistics after a path, how sum and maximum are held against the baseline, and what that
+/// says.
+#[derive(Debug, Clone, Copy)]
+pub struct Reading {
+    pub stats: KLDivergenceStats,
+    pub sum: Held,
+    pub maximum: Held,
+    pub judged: Judged,
+}
+
+/// What a reading says.
+#[derive(Debug, Clone, Copy, PartialEq)]
+pub enum Judged {
+    Calm,
+    /// Sum or maximum is by so many deviations above the mean.
+    Drift(f64),
+    Not(Why),
+}
+
+impl Reading {
+    /// Judges statistics; `visits` are those of nodes with a prior in the window. One of the two
+    /// figures is enough to judge by.
+    pub fn of(stats: KLDivergenceStats, visits: u64, usual: Usual, drift: f64) -> Reading {
+        let unusable = if visits == 0 { Some(Why::NothingWatched) } else { usual.unusable };
+        let (sum, maximum) = match (unusable, usual.figures) {
+            (None, Some(figures)) => {
+                let maximum = if stats.number > 0 { hold(stats.maximum, figures.maximum) } else { Held::Not };
+                (hold(stats.sum, figures.sum), maximum)
+            }
+            _ => (Held::Not, Held::Not),
+        };
+        let above = [sum, maximum].into_iter().filter_map(Held::deviations).reduce(f64::max);
+        let judged = match (unusable, above) {
+            (Some(why), _) => Judged::Not(why),
+            (None, Some(above)) if above > drift => Judged::Drift(above),
+            _ if (sum, maximum) == (Held::Not, Held::Not) => Judged::Not(Why::NoSpread),
+            _ => Judged::Calm,
+        };
+        Reading { stats, sum, maximum, judged }
+    }
+}
+
+/// What is told of the whole day.
+#[derive(Debug, Clone, Copy, PartialEq, Eq)]
+pub enum Verdict {
+    /// All of it is judged, and none of it drifts.
+    NoDrift,
+    /// Some of it drifts, or does what was never seen.
+    Drift,
+    /// No drift is found in what is judged, and not all of it is.
+    NotAllJudged,
+}
+
+/// Why a path is not judged.
+#[derive(Debug, Clone, Copy, PartialEq, Eq, PartialOrd, Ord)]
+pub enum Unjudged {
+    Reading(Why),
+    LeftOut(LeftOut),
+}
+
+/// The paths that are not judged for one reason.
+#[derive(Debug, Clone, Copy, PartialEq, Eq)]
+pub struct Part {
+    pub why: Unjudged,
+    pub paths: usize,
+    /// Indexes of the first and the last of them.
+    pub first: usize,
+    pub last: usize,
+    /// No other reading lies between the first and the last.
+    pub gapless: bool,
+    /// No other reading comes behind the last.
+    pub to_the_end: bool,
+}
+
+/// How many paths there are of each kind.
+#[derive(Debug, Clone, Copy, Default, PartialEq, Eq)]
+pub struct Tally {
+    pub judged: usize,
+    pub unjudged: usize,
+    pub unread: usize,
+    pub left_out: usize,
+    /// Readings that one figure alone is judged by.
+    pub by_one_figure: usize,
+}
+
+/// All that a report needs.
+pub struct Watched {
+    pub trained: Option<Trained>,
+    /// One for each path of the day.
+    pub places: Vec<Place>,
+    pub stretches: Vec<Stretch>,
+    pub found: Vec<Found>,
+    /// Paths of the day and of the training that end where the prior has no ending, and are added.
+    pub new_endings: [usize; 2],
+    /// The nodes with the greatest divergences after the last path, and how many more there are.
+    pub nodes: Vec<Moved>,
+    pub more_nodes: usize,
+    /// Nodes without a prior.
+    pub skipped: u32,
+}
+
+impl Watched {
+    /// The readings, with the indexes of their paths.
+    pub fn readings(&self) -> impl DoubleEndedIterator<Item = (usize, &Reading)> {
+        self.places.iter().enumerate().filter_map(|(index, place)| match place {
+            Place::Read(reading) => Some((index, reading)),
+            Place::Unread | Place::LeftOut(_) => None,
+        })
+    }
+
+    /// What is usual at a length.
+    pub fn usual(&self, length: u64) -> Usual {
+        self.trained.as_ref().map_or(Usual::UNKNOWN, |trained| trained.usual(length))
+    }
+
+    /// What is told of the whole day.
+    pub fn verdict(&self) -> Verdict {
+        match self.tally() {
+            _ if !(self.stretches.is_empty() && self.found.is_empty()) => Verdict::Drift,
+            Tally { unjudged: 0, left_out: 0, .. } => Verdict::NoDrift,
+            _ => Verdict::NotAllJudged,
+        }
+    }
+
+    /// How many paths there are of each kind.
+    pub fn tally(&self) -> Tally {
+        let mut tally = Tally::default();
+        for place in &self.places {
+            match place {
+                Place::Read(Reading { judged: Judged::Not(_), .. }) => tally.unjudged += 1,
+                Place::Read(reading) => {
+                    tally.judged += 1;
+                    let alone = reading.sum == Held::Not || reading.maximum == Held::Not;
+                    tally.by_one_figure += usize::from(alone && reading.stats.number > 0);
+                }
+                Place::Unread => tally.unread += 1,
+                Place::LeftOut(_) => tally.left_out += 1,
+            }
+        }
+        tally
+    }
+
+    /// What is not judged, by its reason. What was never seen is a finding and stands elsewhere.
+    pub fn unjudged(&self) -> Vec<Part> {
+        let mut parts: BTreeMap<Unjudged, Part> = BTreeMap::new();
+        // Numbers of the first and last of a part among all that is read or left out.
+        let mut numbers: BTreeMap<Unjudged, [usize; 2]> = BTreeMap::new();
+        let mut number = 0;
+        for (index, place) in self.places.iter().enumerate() {
+            let why = match place {
+                Place::Unread | Place::LeftOut(LeftOut::NeverSeen) => continue,
+                Place::LeftOut(why) => Some(Unjudged::LeftOut(*why)),
+                Place::Read(Reading { judged: Judged::Not(why), .. }) => Some(Unjudged::Reading(*why)),
+                Place::Read(_) => None,
+            };
+            number += 1;
+            let Some(why) = why else { continue };
+            let (paths, first, last) = (0, index, index);
+            let part = Part { why, paths, first, last, gapless: false, to_the_end: false };
+            let part = parts.entry(why).or_insert(part);
+            (part.paths, part.last) = (part.paths + 1, index);
+            numbers.entry(why).or_insert([number, number])[1] = number;
+        }
+        let placed = |mut part: Part| {
+            let [first, last] = numbers[&part.why];
+            part.gapless = last - first + 1 == part.paths;
+            part.to_the_end = last == number;
+            part
+        };
+        let mut parts: Vec<Part> = parts.into_values().map(placed).collect();
+        parts.sort_by_key(|part| part.first);
+        parts
+    }
+}
