@@ -247,7 +247,7 @@ fn no_file_is_written_over_another() {
         output.status.code()
     };
     assert_eq!(status(&["--html", &day, &day]), Some(2));
-    assert_eq!(status(&["--csv", &format!("{}/../tmp/over.txt", folder), &day]), Some(2));
+    assert_eq!(status(&["--csv", &format!("{}/./over.txt", folder), &day]), Some(2));
     assert_eq!(status(&["--csv", "same", "--html", "same", &day]), Some(2));
     assert_eq!(std::fs::read_to_string(&day).expect("it is there"), "day\npath 1/7\n");
     assert_eq!(status(&["--csv", &format!("{}/none/figures.csv", folder), &day]), Some(1));
