@@ -1,4 +1,4 @@
-/* What the programs here share: fields in bytes, and a count of what is not as expected. */
+/* What the programs here share: fields in bytes, written apart from the header's own, and a count of what is not as expected. */
 #ifndef BYTES_H
 #define BYTES_H
 
