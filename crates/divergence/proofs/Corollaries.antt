@@ -5,12 +5,12 @@ use Prim.Native.Nat.{ℕ}
 use mathlib.Core.List.{List, [], _∷_, _++_}
 use Rattle.book.specs.Path.{Steps}
 use Rattle.book.specs.Calls.{BookAnswer}
-use Rattle.book.specs.Claims.{opening, add, Machine, bookStep, Recount, restarted, recountStep, runs}
+use Rattle.book.specs.Claims.{BookCall, opening, add, Machine, bookStep, Recount, restarted, recountStep, runs}
 use Rattle.book.specs.Corollaries.{acceptedSince, windowSince}
 use Rattle.book.proofs.RefusalLaws.{open-number}
 use Rattle.book.proofs.Corollaries.{since-paths, since-window, add-not-nine, told as book-told}
-use Rattle.divergence.specs.Asked.{Seen, seenOf}
-use Rattle.divergence.specs.Claims.{ReadingCall, probVector, evidenceProbVector, posteriorKlDivergence, allNodeKl, klDivStats, Call, change, read, Answer, reading, step, recountSeen, recounted}
+use Rattle.divergence.specs.Asked.{Seen}
+use Rattle.divergence.specs.Claims.{called, ReadingCall, probVector, evidenceProbVector, posteriorKlDivergence, allNodeKl, klDivStats, Call, change, read, Answer, reading, step, recountSeen, recounted}
 use Rattle.divergence.specs.Corollaries.{changesOf, changedAnswers, WithoutReadings, NeverNine, Corollary}
 use Rattle.divergence.proofs.NumberLaws.{reading-not-nine}
 use Rattle.divergence.proofs.Claimed.{read-answer, claim-kept}
@@ -26,27 +26,22 @@ reading-passed s (posteriorKlDivergence t p scale point) answers = refl
 reading-passed s (allNodeKl t p o) answers = refl
 reading-passed s (klDivStats t p) answers = refl
 
-pub without-readings : WithoutReadings
-unfolding runs step changesOf changedAnswers
-without-readings m [] = (refl, refl)
-without-readings m (change c ∷ cs) =
-    let rest = without-readings (bookStep m c .1) cs in
-    (ap (λ (l : List BookAnswer). bookStep m c .0 ∷ l) (rest .0), rest .1)
-without-readings m (read c ∷ cs) =
-    let rest = without-readings m cs in
-    (reading-passed (seenOf (m .state) (m .book) (m .queue)) c (runs step m cs .0) ∙ rest .0, rest .1)
+module _ {State : Type 0} (book : State → BookCall → BookAnswer × State) (seen : State → Seen) where
+  -- without its readings a list has the same answers to the others, and leaves the same
+  only-changes : (s : State) (cs : List Call)
+      → (changedAnswers (runs (called book seen) s cs .0) ≡ runs book s (changesOf cs) .0) × (runs (called book seen) s cs .1 ≡ runs book s (changesOf cs) .1)
+  unfolding runs changesOf changedAnswers
+  only-changes s [] = (refl, refl)
+  only-changes s (change c ∷ cs) =
+      let rest = only-changes (book s c .1) cs in
+      (ap (λ (l : List BookAnswer). book s c .0 ∷ l) (rest .0), rest .1)
+  only-changes s (read c ∷ cs) =
+      let rest = only-changes s cs in
+      (reading-passed (seen s) c (runs (called book seen) s cs .0) ∙ rest .0, rest .1)
 
--- nor in the recount
-recount-without : (r : Recount) (cs : List Call)
-    → (changedAnswers (runs recounted r cs .0) ≡ runs recountStep r (changesOf cs) .0) × (runs recounted r cs .1 ≡ runs recountStep r (changesOf cs) .1)
-unfolding runs recounted changesOf changedAnswers
-recount-without r [] = (refl, refl)
-recount-without r (change c ∷ cs) =
-    let rest = recount-without (recountStep r c .1) cs in
-    (ap (λ (l : List BookAnswer). recountStep r c .0 ∷ l) (rest .0), rest .1)
-recount-without r (read c ∷ cs) =
-    let rest = recount-without r cs in
-    (reading-passed (recountSeen (r .window) (r .paths)) c (runs recounted r cs .0) ∙ rest .0, rest .1)
+pub without-readings : WithoutReadings
+unfolding step
+without-readings m cs = only-changes bookStep _ m cs
 
 -- ---- 9
 
@@ -66,7 +61,7 @@ corollary m first openings w book queue e cs bytes =
     let all : List Call = first ++ change (opening w book queue) ∷ cs in
     let alike = claim-kept m none first openings w book queue (sym (open-number w book queue) ∙ e) cs bytes in
     let last : Recount = runs recounted none all .1 in
-    let plain = recount-without none all in
+    let plain = only-changes recountStep (λ (r : Recount). recountSeen (r .window) (r .paths)) none all in
     let answers : changedAnswers (runs step m all .0) ≡ runs recountStep none (changesOf all) .0 = ap changedAnswers (alike .0) ∙ plain .0 in
     let W-is : windowSince 0 (changesOf all) (changedAnswers (runs step m all .0)) ≡ last .window = ap (windowSince 0 (changesOf all)) answers ∙ sym (since-window none (changesOf all)) ∙ ap (λ (r : Recount). r .window) (sym (plain .1)) in
     let H-is : acceptedSince [] (changesOf all) (changedAnswers (runs step m all .0)) ≡ last .paths = ap (acceptedSince [] (changesOf all)) answers ∙ sym (since-paths none (changesOf all)) ∙ ap (λ (r : Recount). r .paths) (sym (plain .1)) in (

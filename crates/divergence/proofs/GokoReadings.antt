@@ -34,8 +34,8 @@ use Rattle.divergence.specs.declared.divergences.NodeDivergence.the-vari
 use Rattle.divergence.specs.Nodes.{Node, childRow, spread, listedNodes, evidenceOf}
 use Rattle.divergence.specs.Probability.{probVector, evidenceProbVector, withTotal, posterior}
 use Rattle.divergence.specs.Divergence.{divergence, lacksChild, nodeDivergence}
-use Rattle.divergence.specs.Statistics.{Place, Walk, stopped, walked, placed, skipping, visited, walk}
-use Rattle.divergence.specs.Readings.{Reading, refused, nothing, answered, unless, fitting, vectorReading, probReading, evidenceReading, divergenceReading, ofListed, klReading, Divergences, withPrior, walkReading, allReading, statsReadingOf, statsReading, formRefusal, nodesOf, sequenceLen}
+use Rattle.divergence.specs.Statistics.{Place, Walk, walked, placed, skipping, visited, walk}
+use Rattle.divergence.specs.Readings.{Reading, refused, nothing, answered, mapped, unless, fitting, vectorReading, probReading, evidenceReading, divergenceReading, ofListed, klReading, Divergences, withPrior, walkReading, allReading, statsReadingOf, statsReading, formRefusal, nodesOf, sequenceLen}
 use Rattle.divergence.specs.Answers.{vectorResult, allResult}
 use Rattle.divergence.specs.Asked.{Output, vectorTelling, allTelling, roomIn}
 use Rattle.divergence.specs.Corollaries.{readingNumber}
@@ -43,7 +43,7 @@ use Rattle.divergence.specs.GokoFloats.{floatCounts, floatVector, gokoPr
 use Rattle.divergence.proofs.FitLaws.{tables-alike, tables-few}
 use Rattle.divergence.proofs.CheckLaws.{form-few, form-true, checks-unnamed, checks-are}
 use Rattle.divergence.specs.Checks.{checksRefusal}
-use Rattle.divergence.proofs.NumberLaws.{walkNumber}
+use Rattle.divergence.proofs.NumberLaws.{walkNumber, placed-number, skipping-number, walk-number, stats-number}
 use Rattle.divergence.proofs.GokoLaws.{kl-none, stats-same, length-same, posterior-total, evidence-whole, vectorOf, vector-whole, vector-keys, vector-figures, kl-whole}
 
 -- ---- a reading that is not refused has passed its checks
@@ -53,15 +53,16 @@ passed zero r h = (refl, refl, h)
 passed (suc n) r h = absurd (omega arith)
 
 -- what is told of an answer has the answer's number
+mapped-number : {X Y : Type 0} (part : X → Y) (r : Reading X) → readingNumber (mapped part r) ≡ readingNumber r
+mapped-number part (refused n node) = refl
+mapped-number part nothing = refl
+mapped-number part (answered x) = refl
+
 vector-number : (r : Reading Counts) → readingNumber (vectorResult r) ≡ readingNumber r
-vector-number (refused n node) = refl
-vector-number nothing = refl
-vector-number (answered c) = refl
+vector-number r = mapped-number _ r
 
 all-number : (r : Reading Divergences) → readingNumber (allResult r) ≡ readingNumber r
-all-number (refused n node) = refl
-all-number nothing = refl
-all-number (answered d) = refl
+all-number r = mapped-number _ r
 
 fitted : {X : Type 0} (places have : ℕ) (r : Reading X) → readingNumber (fitting places have r) ≡ 0 → (fitting places have r ≡ r) × (readingNumber r ≡ 0)
 fitted places have r h = go (ltb have places) h
@@ -167,14 +168,6 @@ evidence-given (some e) light = go (ltb 0 (total e)) ∙ sym (vector-whole e (om
 abbrev WalkGiven : Option Divergences → Walk → Type 0
 WalkGiven rest w = walkNumber w ≡ 0 → (d : Divergences) × (rest ≡ some d) × (w ≡ walked (d .places) (d .skipped))
 
-placed-number : (p : Place) (w : Walk) → walkNumber (placed p w) ≡ walkNumber w
-placed-number p (stopped n m) = refl
-placed-number p (walked ps k) = refl
-
-skipping-number : (w : Walk) → walkNumber (skipping w) ≡ walkNumber w
-skipping-number (stopped n m) = refl
-skipping-number (walked ps k) = refl
-
 module _ (lnGamma digamma : Float → Float) (G D : List Float) (g : Tabled lnGamma G) (d : Tabled digamma D) (ok : tablesRefusal G D ≡ 0) where
   -- what a node with evidence e comes to, and goko's answer for it
   data NodeGiven (o : Option Counts) (e : Counts) : NodeDivergence → Type 0 where
@@ -237,15 +230,6 @@ module _ (lnGamma digamma : Float → Float) (G D : List Float) (g : Tabled lnGa
     listed-given rank (some e) light h =
         let o = priorOf nodes children rank in
         kl-given rank o e (node-given o e (sound rank) (light e refl)) h
-
--- a walk's number as a reading
-walk-number : (w : Walk) → readingNumber (walkReading w) ≡ walkNumber w
-walk-number (stopped n node) = refl
-walk-number (walked ps k) = refl
-
-stats-number : (len : ℕ) (w : Walk) → readingNumber (statsReadingOf len w) ≡ walkNumber w
-stats-number len (stopped n node) = refl
-stats-number len (walked ps k) = refl
 
 -- goko's loop over a list, with its sequence length
 stats-given : (t : Tracker) (d : Divergences) → statsReadingOf (sequenceLen t) (walked (d .places) (d .skipped)) ≡ statsGiven t d

@@ -20,7 +20,7 @@ use Rattle.divergence.specs.Nodes.{Node, evidenceOf}
 use Rattle.divergence.specs.RecountNodes.{recountNodes}
 use Rattle.divergence.specs.Probability as Vectors
 use Rattle.divergence.specs.Divergence.{nodeDivergence}
-use Rattle.divergence.specs.Statistics.{Walk, stopped, walked, visited, walk}
+use Rattle.divergence.specs.Statistics.{Place, Walk, stopped, walked, placed, skipping, visited, walk}
 use Rattle.divergence.specs.Readings.{Reading, refused, nothing, answered, mapped, unless, fitting, vectorReading, probReading, evidenceReading, divergenceReading, ofListed, klReading, withPrior, walkReading, allReading, statsReadingOf, statsReading}
 use Rattle.divergence.specs.Asked.{roomIn}
 use Rattle.divergence.specs.Claims.{ReadingCall, probVector, evidenceProbVector, posteriorKlDivergence, allNodeKl, klDivStats, vector, kl, allKl, stats, reading, recountSeen}
@@ -80,11 +80,27 @@ abbrev pub walkNumber : Walk → ℕ
 walkNumber (stopped n node) = n
 walkNumber (walked places skipped) = 0
 
+-- which a place or a skipped node before it does not change
+pub placed-number : (p : Place) (w : Walk) → walkNumber (placed p w) ≡ walkNumber w
+placed-number p (stopped n node) = refl
+placed-number p (walked ps k) = refl
+
+pub skipping-number : (w : Walk) → walkNumber (skipping w) ≡ walkNumber w
+skipping-number (stopped n node) = refl
+skipping-number (walked ps k) = refl
+
+-- and which is that of the readings made of it
+pub walk-number : (w : Walk) → readingNumber (walkReading w) ≡ walkNumber w
+walk-number (stopped n node) = refl
+walk-number (walked ps k) = refl
+
+pub stats-number : (len : ℕ) (w : Walk) → readingNumber (statsReadingOf len w) ≡ walkNumber w
+stats-number len (stopped n node) = refl
+stats-number len (walked ps k) = refl
+
 visited-not : (node : ℕ) (d : NodeDivergence) (rest : Walk) → Not9 (walkNumber rest) → Not9 (walkNumber (visited node d rest))
-visited-not node (Value x) (stopped n m) h = h
-visited-not node (Value x) (walked ps k) h = h
-visited-not node NoPrior (stopped n m) h = h
-visited-not node NoPrior (walked ps k) h = h
+visited-not node (Value x) rest h = rw (placed-number (record { address = node; value = x }) rest) h
+visited-not node NoPrior rest h = rw (skipping-number rest) h
 visited-not node MissingChild rest h = λ e. omega arith
 visited-not node PastTable rest h = λ e. omega arith
 
@@ -95,12 +111,10 @@ walk-not G D nodes children (n ∷ ns) =
     visited-not (n .address) (nodeDivergence G D (priorOf nodes children (n .address)) (n .evidence)) (walk G D nodes children ns) (walk-not G D nodes children ns)
 
 walked-other : (w : Walk) → Not9 (walkNumber w) → Other (walkReading w)
-walked-other (stopped n node) h = record { not-nine = h }
-walked-other (walked ps k) h = record { not-nine = h }
+walked-other w h = record { not-nine = rw (walk-number w) h }
 
 stats-other : (len : ℕ) (w : Walk) → Not9 (walkNumber w) → Other (statsReadingOf len w)
-stats-other len (stopped n node) h = record { not-nine = h }
-stats-other len (walked ps k) h = record { not-nine = h }
+stats-other len w h = record { not-nine = rw (stats-number len w) h }
 
 -- ---- the readings, of a tracker in form
 

@@ -59,19 +59,21 @@ reading s (klDivStats tables priors) = told (mapped stats (statsAsked s tables p
 
 -- ---- the machine and the recount
 
--- a reading changes neither state nor book nor queue
-unfoldable pub step : Machine → Call → Answer × Machine
-step m (change c) = let after = bookStep m c in (changed (after .0), after .1)
-step m (read c) = (reading (seenOf (m .state) (m .book) (m .queue)) c, m)
+-- a call, by what openings and adds do and what a reading sees; a reading changes nothing
+abbrev pub called : {State : Type 0} → (State → BookCall → BookAnswer × State) → (State → Seen) → State → Call → Answer × State
+called book seen s (change c) = let after = book s c in (changed (after .0), after .1)
+called book seen s (read c) = (reading (seen s) c, s)
 
--- what a reading sees of W and H, told from the paths alone
+-- the machine: a reading sees the state, the book and the queue
+unfoldable pub step : Machine → Call → Answer × Machine
+step = called bookStep (λ (m : Machine). seenOf (m .state) (m .book) (m .queue))
+
+-- what a reading sees of W and H, told from the paths alone; never 9 for the list's own tracker
 abbrev pub recountSeen : ℕ → List Steps → Seen
 recountSeen W H = record { form = 0; listed = recountNodes W H; sequenceLength = Paths.sequenceLength W H }
 
--- a reading changes neither W nor H, and never gets 9 for the list's own tracker
 unfoldable pub recounted : Recount → Call → Answer × Recount
-recounted r (change c) = let after = recountStep r c in (changed (after .0), after .1)
-recounted r (read c) = (reading (recountSeen (r .window) (r .paths)) c, r)
+recounted = called recountStep (λ (r : Recount). recountSeen (r .window) (r .paths))
 
 -- ---- the claim
 
