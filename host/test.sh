@@ -1,7 +1,7 @@
 #!/bin/sh
-# Builds the Rust side and runs its unit tests, the comparison with goko, and the replay of the
-# recorded sample; then what goes through the archive: the crate over it with its examples, the
-# comparison at scale, and the example day. Fails at the first failure. Needs no network. Without
+# Builds the Rust side and runs its tests, the comparison with goko, and the replay of the recorded
+# sample; then what goes through the archive: the example day, the crate over it with its examples,
+# the program, and the comparison at scale. Fails at the first failure. Needs no network. Without
 # goko's sources it says so in a line and goes on.
 #
 #     test.sh [--lists N] [--seed S] [--long]

@@ -4,11 +4,12 @@
  * of the watch are in docs/RULES.md, installed as share/doc/teakpool/RULES.md: what addresses, priors, book and queue are, each
  * figure's formula, and what to do about each refusal.
  *
- * Every call is declared twice. The plain functions come first; they are what the archive has, and take each slice as a pointer and
- * a length. After them the same calls take structs, one for each group of things lent, and are `static inline` over the plain ones.
- * In these a slice or a group in another's place does not compile, and NULL stands for a slice of length 0.
+ * Every call but teakpool_version is declared twice. The plain functions come first; they are what the archive has, and take each
+ * slice as a pointer and a length. After them the same calls take structs, one for each group of things lent, and are `static inline`
+ * over the plain ones. In these a slice or a group that was made for another place does not compile, and NULL stands for a slice of
+ * length 0. What a slice is made of is the caller's word: -Wall -Wextra -Werror has the compiler refuse wrong elements there.
  *
- * What every function returns
+ * What every function but teakpool_version returns
  *   TEAKPOOL_DONE (0)    the call is carried out and its answer is written;
  *   TEAKPOOL_NONE (100)  there is no answer, goko's None, and nothing is written: the node asked for has no prior, is not listed, or
  *                        is listed with a total of 0. Each function that can return it says when;
@@ -36,10 +37,11 @@
  * Every content of the memory is allowed. What breaks a rule is refused by its number, or read as docs/RULES.md says of memory
  * altered by others, and never out of bounds.
  *
- * Stack. No call takes more than TEAKPOOL_STACK bytes, beside what memset takes. examples/c/test.sh measures this in the archive's
- * machine code, prints it for each function and fails past TEAKPOOL_STACK. It counts, along the deepest chain of calls, every push
- * and every `sub` on the stack pointer of each function, the return addresses, and the 128 bytes below the stack pointer that the
- * last function of the chain may use without moving it. There is no recursion and no call through a pointer.
+ * Stack. No plain function takes more than TEAKPOOL_STACK bytes, beside what memset takes. examples/c/test.sh measures this in the
+ * archive's machine code, prints it for each function and fails past TEAKPOOL_STACK. It counts, along the deepest chain of calls,
+ * every push and every `sub` on the stack pointer of each function, the return addresses, and the 128 bytes below the stack pointer
+ * that the last function of the chain may use without moving it. There is no recursion and no call through a pointer. The calls over
+ * structs add the frame that the compiler gives them, teakpool_try_path the largest.
  *
  * Byte forms. Fields are 32 bits, little-endian. An address is a scale (i32) and a point (u32), 8 bytes; addresses ascend by scale
  * as a signed number, then by point.

@@ -1,8 +1,8 @@
 /* Fills tables with ln gamma and digamma at whole numbers, as teakpool.h wants them. A program that has tables of its own needs none
  * of this.
  *
- * Nothing but additions, subtractions, multiplications and divisions of doubles is used, each rounded once, and no function of the C
- * library. Every compiler that keeps to IEEE 754 gives the same bits, with fused multiply-adds or without; do not compile this with
+ * Nothing but additions, subtractions, multiplications and divisions of doubles is used, each rounded once, and a rounding to float;
+ * no function of the C library. Every compiler that keeps to IEEE 754 gives the same bits, with fused multiply-adds or without; do not compile this with
  * -ffast-math. Up to index 1,048,575 no value is further than 2 units in the last place from the true one (at most 0.51 measured).
  *
  * Going from k to k + 1, ln gamma grows by ln k, digamma by 1 / k, and ln k by 2 (z + z^3 / 3 + z^5 / 5 + ..) with z = 1 / (2k + 1).

@@ -1,4 +1,5 @@
-/* CASE 0 has everything in its place and compiles. In every other case one thing is misplaced, and the compiler must refuse it. */
+/* CASE 0 has everything in its place and compiles. In every other case one thing is misplaced, and the compiler must refuse it, with -Wall
+ * -Wextra -Werror where C only warns. */
 #include "teakpool.h"
 
 uint32_t misplaced(struct teakpool_tracker *tracker, struct teakpool_priors priors, struct teakpool_tables tables,
