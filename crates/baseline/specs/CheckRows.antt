@@ -1,15 +1,16 @@
--- The kit's check rows marked *: each row is computed from the definitions that the functions' contracts cite, and one proof shows that all hold. Assumes nothing.
-use mathlib.Core.Bool.{Bool, true, false, _&&_}
+-- The kit's check rows marked *, and where minus zero comes out of `stats` and where it does not: each row is an equation about the definitions that the functions'
+-- contracts cite, figures by `≡`, and one proof shows that all hold. Assumes nothing.
+use mathlib.Core.Path.{_≡_, refl}
 use mathlib.Core.List.{List, [], _∷_, _++_, map, flatMap}
 use mathlib.Core.Option.{Option, none, some}
 use Prim.Native.Nat.{ℕ, _+_, _-_, _*_}
-use lib.Dec.{T, eqb}
-use lib.ListN.{length}
-use lib.Ieee.{Float, add, sub, mul, div, eq, le, ofInt, ofBits}
+use lib.IntN.{pos}
+use lib.ListN.{length, replicate}
+use lib.Ieee.{Float, binary64, add, sub, mul, div, le, ofInt, ofBits}
 use Rattle.priors.specs.Below.{allBelow, listOf}
 use Rattle.priors.specs.Word.{word, wordBytes, store}
-use Rattle.priors.specs.Address.{lift, rank, rankOf, addressOf}
-use Rattle.priors.specs.Rows.{Row, row, change, countOf}
+use Rattle.priors.specs.Address.{lift, rank, addressOf}
+use Rattle.priors.specs.Rows.{row, change, countOf}
 use Rattle.priors.specs.Tables as Tables
 use Rattle.priors.specs.Tables.{LentTables, lentTables}
 use Rattle.priors.specs.Priors.{LentPriors, lentPriors, Counts}
@@ -25,105 +26,24 @@ use Rattle.book.specs.Figures as Paths
 use Rattle.book.specs.Recount as Recount
 use Rattle.book.specs.Claims as Claims
 use Rattle.book.specs.Claims.{opening, add as adding, Machine, bookStep, runs}
-use Rattle.divergence.specs.Numbers.{fdiv, flt, zero64}
+use Rattle.divergence.specs.Numbers.{fdiv, flt, zero64, minusZero64}
 use Rattle.divergence.specs.Nodes.{spread, listedNodes, evidenceOf}
 use Rattle.divergence.specs.RecountNodes as RecountNodes
 use Rattle.divergence.specs.Divergence as Divergence
 use Rattle.divergence.specs.Statistics as Walks
 use Rattle.divergence.specs.Probability as Probability
 use Rattle.divergence.specs.Readings as Readings
-use Rattle.divergence.specs.Readings.{Reading, refused, nothing, answered, Statistics, nodesOf}
+use Rattle.divergence.specs.Readings.{Reading, refused, nothing, answered, mapped, Statistics, nodesOf}
 use Rattle.divergence.specs.Answers.{VectorResult, AllResult}
 use Rattle.divergence.specs.Asked.{Seen, seenOf, Output, lentOutput, Telling, probAsked, evidenceAsked, klAsked, allAsked, statsAsked}
-use Rattle.divergence.specs.Corollaries.{readingNumber}
 use Rattle.divergence.specs.declared.statistics.KLDivergenceStats.{KLDivergenceStats}
+use Rattle.baseline.specs.declared.figures.MeanVar.{MeanVar}
 use Rattle.baseline.specs.declared.figures.KLDivergenceBaselineStats.{KLDivergenceBaselineStats}
 use Rattle.baseline.specs.Sums.{added, sumsAt, putSums}
 use Rattle.baseline.specs.Training as Training
 use Rattle.baseline.specs.Training.{TrainAnswer, inputOf, addAll, started, trainAsked}
-use Rattle.baseline.specs.Figures.{toMeanVar, interpolated}
+use Rattle.baseline.specs.Figures.{toMeanVar, interpolated, noFigures}
 use Rattle.baseline.specs.Stats.{notAbove, knotFigures, lineFigures, figuresAfter, figuresAt, risesAt, rising, baselineFits, pastOneKnot, statsRefusal, baselineReading}
-
-abbrev pub every : List Bool → Bool
-every [] = true
-every (b ∷ bs) = b && every bs
-
--- ---- what a row asks of an answer
-
--- mean and variance of the maxima
-abbrev pub maximaAre : Float → Float → Reading KLDivergenceBaselineStats → Bool
-maximaAre mean variance (refused n node) = false
-maximaAre mean variance nothing = false
-maximaAre mean variance (answered f) = eq (f .max .mean) mean && eq (f .max .variance) variance
-
--- the figure of a reading is x
-abbrev pub figureIs : Float → Reading Float → Bool
-figureIs x (answered y) = eq y x
-figureIs x nothing = false
-figureIs x (refused n node) = false
-
--- so many places are filled, and so many nodes are skipped
-abbrev pub filledAndSkipped : ℕ → ℕ → Reading AllResult → Bool
-filledAndSkipped n k (answered a) = eqb (a .places) n && eqb (a .skipped) k
-filledAndSkipped n k nothing = false
-filledAndSkipped n k (refused m node) = false
-
--- the moments, and how many nodes are skipped
-abbrev pub momentsAre : Float → Float → ℕ → Reading Statistics → Bool
-momentsAre sum squares k (answered a) = eq (a .stats .«moment1_nz») sum && (eq (a .stats .«moment2_nz») squares && eqb (a .skipped) k)
-momentsAre sum squares k nothing = false
-momentsAre sum squares k (refused n node) = false
-
--- the sequence length of a record
-abbrev pub lengthIs : ℕ → Reading Statistics → Bool
-lengthIs n (answered a) = eqb (a .stats .«sequence_len») n
-lengthIs n nothing = false
-lengthIs n (refused m node) = false
-
-abbrev pub isNothing : {X : Type 0} → Reading X → Bool
-isNothing (answered x) = false
-isNothing nothing = true
-isNothing (refused n node) = false
-
--- these children, each with its address and its count, and the ending's count
-abbrev pub sameRows : List Row → List Row → Bool
-sameRows [] [] = true
-sameRows [] (y ∷ ys) = false
-sameRows (x ∷ xs) [] = false
-sameRows (x ∷ xs) (y ∷ ys) = eqb (x .key) (y .key) && (eqb (x .count) (y .count) && sameRows xs ys)
-
-abbrev pub countsAre : List Row → ℕ → Option Counts → Bool
-countsAre children ending none = false
-countsAre children ending (some c) = eqb (c .ending) ending && sameRows (c .children) children
-
--- so many places are filled, and the ending has this figure
-abbrev pub filledWithEnding : ℕ → Float → Reading VectorResult → Bool
-filledWithEnding n ending (answered v) = eqb (v .places) n && eq (v .ending) ending
-filledWithEnding n ending nothing = false
-filledWithEnding n ending (refused m node) = false
-
--- the refusal has this number and names the node with this rank
-abbrev pub refusedAt : {X : Type 0} → ℕ → ℕ → Reading X → Bool
-refusedAt n at (refused m (some a)) = eqb m n && eqb (rankOf (a .scale) (a .point)) at
-refusedAt n at (refused m none) = false
-refusedAt n at nothing = false
-refusedAt n at (answered x) = false
-
--- the output holds these bytes and these figures, past the answer too
-abbrev pub sameNumbers : List ℕ → List ℕ → Bool
-sameNumbers [] [] = true
-sameNumbers [] (y ∷ ys) = false
-sameNumbers (x ∷ xs) [] = false
-sameNumbers (x ∷ xs) (y ∷ ys) = eqb x y && sameNumbers xs ys
-
-abbrev pub sameFigures : List Float → List Float → Bool
-sameFigures [] [] = true
-sameFigures [] (y ∷ ys) = false
-sameFigures (x ∷ xs) [] = false
-sameFigures (x ∷ xs) (y ∷ ys) = eq x y && sameFigures xs ys
-
-abbrev pub holds : List ℕ → List Float → Output → Bool
-holds addresses figures o = sameNumbers (o .addresses) addresses && sameFigures (o .figures) figures
 
 -- ---- a tracker
 
@@ -220,41 +140,84 @@ twoKnots i = baselineReading (1 ∷ 11 ∷ []) (knotOver (maximum 8 ∷ []) ++ k
 abbrev pub oneKnot : ℕ → Reading KLDivergenceBaselineStats
 oneKnot i = baselineReading (1 ∷ []) (knotOver (maximum 8 ∷ [])) 1 i
 
-unfoldable pub rows : List Bool
-rows =
-    -- add (1,7),(0,9): divergence 6, one skipped, moments 6 and 36
-    figureIs (flt 6) (kl (tracker 3 (first ∷ [])) 7 (rank 1 7))
-    ∷ filledAndSkipped 1 1 (allKl (tracker 3 (first ∷ [])) .answer)
-    ∷ holds (addressOn 1 7 ++ listOf 16 (λ k. 5)) (flt 6 ∷ flt 5 ∷ flt 5 ∷ []) (allKl (tracker 3 (first ∷ [])) .output)
-    ∷ momentsAre (flt 6) (flt 36) 1 (klStats (tracker 3 (first ∷ [])))
-    -- then add (1,7): ending 1, (0,9) stays with 0, divergence 10, length 1
-    ∷ countsAre (row (rank 0 9) 0 ∷ []) 1 (evidence (tracker 3 (first ∷ second ∷ [])) (rank 1 7))
-    ∷ countsAre [] 0 (evidence (tracker 3 (first ∷ second ∷ [])) (rank 0 9))
-    ∷ figureIs (flt 10) (kl (tracker 3 (first ∷ second ∷ [])) 7 (rank 1 7))
-    ∷ lengthIs 1 (klStats (tracker 3 (first ∷ second ∷ [])))
-    -- probabilities then 2/7, 3/7, ending 2/7; evidence of (0,9): none
-    ∷ filledWithEnding 2 (fdiv (flt 2) (flt 7)) (probabilities (tracker 3 (first ∷ second ∷ [])) (rank 1 7) .answer)
-    ∷ holds (addressOn 0 7 ++ (addressOn 0 9 ++ listOf 8 (λ k. 5))) (fdiv (flt 2) (flt 7) ∷ fdiv (flt 3) (flt 7) ∷ flt 5 ∷ []) (probabilities (tracker 3 (first ∷ second ∷ [])) (rank 1 7) .output)
-    ∷ isNothing (evidenceOnly (tracker 3 (first ∷ second ∷ [])) (rank 0 9) .answer)
-    ∷ holds (fives .addresses) (fives .figures) (evidenceOnly (tracker 3 (first ∷ second ∷ [])) (rank 0 9) .output)
-    -- tables ending at 6: 15, of the node (1,7)
-    ∷ refusedAt 15 (rank 1 7) (kl (tracker 3 (first ∷ second ∷ [])) 6 (rank 1 7))
-    -- first add, book of two entries: 12; of three: taken
-    ∷ eqb (firstAdd 2) 12
-    ∷ eqb (firstAdd 3) 0
-    -- two sequences, maxima 6 and 10: mean 8, variance 4
-    ∷ maximaAre (flt 8) (flt 4) (baselineReading (trained .knots) (trained .values) 2 1)
-    -- means 8 at 1 and 10 at 11: 9 at 6, 12 at 21, 0 at 0
-    ∷ maximaAre (flt 8) zero64 (twoKnots 1)
-    ∷ maximaAre (flt 10) zero64 (twoKnots 11)
-    ∷ maximaAre (flt 9) zero64 (twoKnots 6)
-    ∷ maximaAre (flt 12) zero64 (twoKnots 21)
-    ∷ maximaAre zero64 zero64 (twoKnots 0)
-    -- one knot at 1: answered at 1, 18 at 2
-    ∷ maximaAre (flt 8) zero64 (oneKnot 1)
-    ∷ eqb (readingNumber (oneKnot 2)) 18
-    ∷ []
+-- a record of one divergence, after one path
+abbrev pub ofOne : ℕ → KLDivergenceStats
+ofOne x = record { max = flt x; min = flt x; «nz_count» = 1; «moment1_nz» = flt x; «moment2_nz» = flt (x * x); «sequence_len» = 1 }
 
-pub rows-hold : T (every rows)
-unfolding rows le word store lift rank addressOf change countOf Tables.entriesFit Tables.entryFits Tables.lengthsFit Tables.tablesRefusal Priors.ascends Priors.ascendsAfter Priors.chain Priors.chainAscends Priors.chainFits Priors.chainOf Priors.countFits Priors.countSum Priors.findRecord Priors.firstLinkFits Priors.nextLinkFits Priors.priorOf Priors.priorsRefusal Priors.recordAt Priors.records Priors.total Priors.totalFits Priors.wholeRecords keyOf endKey childKey nodeOf kindOf childOf Entries.bytesOf Entries.rowAt Entries.keyAt Entries.rowBytes Entries.rows stepsOf wholePath listedKeys countedKeys Form.bookFits Form.follows Form.formed Form.formedAfter Form.inForm Form.lengthsFit Form.plain Form.queueFits Form.stateFits changeAll addRows Calls.addBook Calls.addNumber Calls.addQueue Calls.addState Calls.bookAfter Calls.leaving Calls.openBook Calls.openNumber Calls.openQueue Calls.openState Calls.placeBytes Calls.queueWith Calls.rowsAfter Calls.stateAfter Paths.total Paths.transitions Paths.endings Recount.windowPart Recount.sequenceLength Recount.enter Recount.enterAll Recount.listing Claims.addRefusal bookStep runs spread listedNodes evidenceOf RecountNodes.nodesListed RecountNodes.followers RecountNodes.childrenListed RecountNodes.nodeCounted RecountNodes.recountNodes Divergence.childTerms Divergence.closed Divergence.divergence Divergence.endingTerm Divergence.lacksChild Divergence.noLess Divergence.nodeDivergence Divergence.term Walks.counted Walks.noted Walks.statsOver Walks.walk Probability.evidenceProbVector Probability.posterior Probability.probVector Probability.withEvidence Probability.withTotal Readings.filledAddresses Readings.filledFigures Readings.withPrior Readings.klReading Readings.allReading Readings.statsReading Readings.probReading Readings.evidenceReading trainAsked Training.trainRefusal Training.sizesRefusal Training.inputFits Training.pathIn Training.recountStats Training.recordsFrom Training.sequenceRecords Training.allRecords Training.addRecords addAll baselineReading statsRefusal baselineFits pastOneKnot rising risesAt allBelow figuresAt figuresAfter notAbove knotFigures lineFigures toMeanVar interpolated sumsAt putSums added flatMap add sub mul div eq ofInt ofBits
-rows-hold = tt
+-- mean and variance of the maxima
+abbrev pub maximaOf : Reading KLDivergenceBaselineStats → Reading MeanVar
+maximaOf r = mapped (λ (f : KLDivergenceBaselineStats). f .max) r
+
+abbrev pub meanAnd : Float → Float → Reading MeanVar
+meanAnd mean variance = answered (record { mean = mean; variance = variance })
+
+-- ---- baselines that are lent
+
+-- the least figure below 0, -5e-324
+abbrev pub least : Float
+least = ofBits binary64 0x8000_0000_0000_0001
+
+-- a knot's values: the maxima's sum and squares, and zeros for the other figures
+abbrev pub knotOf : Float → Float → List Float
+knotOf sum squares = sum ∷ squares ∷ replicate 8 zero64
+
+-- at the one knot of s sequences
+abbrev pub atKnot : Float → Float → ℕ → Reading MeanVar
+atKnot sum squares s = maximaOf (baselineReading (1 ∷ []) (knotOf sum squares) s 1)
+
+-- of one sequence, with two knots at 1 and 5 that have these sums of maxima
+abbrev pub alongKnots : Float → Float → ℕ → Reading MeanVar
+alongKnots left right i = maximaOf (baselineReading (1 ∷ 5 ∷ []) (knotOf left zero64 ++ knotOf right zero64) 1 i)
+
+-- ---- the rows
+
+abbrev pub Rows : Type 0
+Rows =
+    -- add (1,7),(0,9): divergence 6, one skipped, moments 6 and 36
+    (kl (tracker 3 (first ∷ [])) 7 (rank 1 7) ≡ answered (flt 6))
+    × (allKl (tracker 3 (first ∷ []))
+      ≡ record { answer = answered (record { places = 1; skipped = 1 }); output = lentOutput (addressOn 1 7 ++ listOf 16 (λ k. 5)) (flt 6 ∷ flt 5 ∷ flt 5 ∷ []) })
+    × (klStats (tracker 3 (first ∷ [])) ≡ answered (record { stats = ofOne 6; skipped = 1 }))
+    -- then add (1,7): ending 1, (0,9) stays with 0, divergence 10, length 1
+    × (evidence (tracker 3 (first ∷ second ∷ [])) (rank 1 7) ≡ some (record { ending = 1; children = row (rank 0 9) 0 ∷ [] }))
+    × (evidence (tracker 3 (first ∷ second ∷ [])) (rank 0 9) ≡ some (record { ending = 0; children = [] }))
+    × (kl (tracker 3 (first ∷ second ∷ [])) 7 (rank 1 7) ≡ answered (flt 10))
+    × (klStats (tracker 3 (first ∷ second ∷ [])) ≡ answered (record { stats = ofOne 10; skipped = 1 }))
+    -- probabilities then 2/7, 3/7, ending 2/7; evidence of (0,9): none
+    × (probabilities (tracker 3 (first ∷ second ∷ [])) (rank 1 7)
+      ≡ record { answer = answered (record { places = 2; ending = fdiv (flt 2) (flt 7) }); output = lentOutput (addressOn 0 7 ++ (addressOn 0 9 ++ listOf 8 (λ k. 5))) (fdiv (flt 2) (flt 7) ∷ fdiv (flt 3) (flt 7) ∷ flt 5 ∷ []) })
+    × (evidenceOnly (tracker 3 (first ∷ second ∷ [])) (rank 0 9) ≡ record { answer = nothing; output = fives })
+    -- tables ending at 6: 15, of the node (1,7)
+    × (kl (tracker 3 (first ∷ second ∷ [])) 6 (rank 1 7) ≡ refused 15 (some (record { scale = pos 1; point = 7 })))
+    -- first add, book of two entries: 12; of three: taken
+    × (firstAdd 2 ≡ 12)
+    × (firstAdd 3 ≡ 0)
+    -- two sequences, maxima 6 and 10: mean 8, variance 4
+    × (maximaOf (baselineReading (trained .knots) (trained .values) 2 1) ≡ meanAnd (flt 8) (flt 4))
+    -- means 8 at 1 and 10 at 11: 9 at 6, 12 at 21, 0 at 0
+    × (maximaOf (twoKnots 1) ≡ meanAnd (flt 8) zero64)
+    × (maximaOf (twoKnots 11) ≡ meanAnd (flt 10) zero64)
+    × (maximaOf (twoKnots 6) ≡ meanAnd (flt 9) zero64)
+    × (maximaOf (twoKnots 21) ≡ meanAnd (flt 12) zero64)
+    × (twoKnots 0 ≡ answered noFigures)
+    -- one knot at 1: answered at 1, 18 at 2
+    × (maximaOf (oneKnot 1) ≡ meanAnd (flt 8) zero64)
+    × (oneKnot 2 ≡ refused 18 none)
+    -- at a knot: a sum of minus zero, or of -5e-324 over two sequences, has the mean minus zero
+    × (atKnot minusZero64 zero64 1 ≡ meanAnd minusZero64 zero64)
+    × (atKnot least zero64 2 ≡ meanAnd minusZero64 zero64)
+    -- and squares of minus zero have the variance minus zero, whichever zero the mean is
+    × (atKnot zero64 minusZero64 1 ≡ meanAnd zero64 minusZero64)
+    × (atKnot minusZero64 minusZero64 1 ≡ meanAnd minusZero64 minusZero64)
+    -- between minus zero and -5e-324, a quarter of the way: minus zero
+    × (alongKnots minusZero64 least 2 ≡ meanAnd minusZero64 zero64)
+    -- between two knots of minus zero, past them, and below them: plus zero
+    × (alongKnots minusZero64 minusZero64 2 ≡ meanAnd zero64 zero64)
+    × (alongKnots minusZero64 minusZero64 9 ≡ meanAnd zero64 zero64)
+    × (alongKnots minusZero64 minusZero64 0 ≡ meanAnd zero64 zero64)
+    -- without knots: plus zero
+    × (baselineReading [] [] 1 0 ≡ answered noFigures)
+
+pub rows-hold : Rows
+unfolding le word store lift rank addressOf change countOf Tables.entriesFit Tables.entryFits Tables.lengthsFit Tables.tablesRefusal Priors.ascends Priors.ascendsAfter Priors.chain Priors.chainAscends Priors.chainFits Priors.chainOf Priors.countFits Priors.countSum Priors.findRecord Priors.firstLinkFits Priors.nextLinkFits Priors.priorOf Priors.priorsRefusal Priors.recordAt Priors.records Priors.total Priors.totalFits Priors.wholeRecords keyOf endKey childKey nodeOf kindOf childOf Entries.bytesOf Entries.rowAt Entries.keyAt Entries.rowBytes Entries.rows stepsOf wholePath listedKeys countedKeys Form.bookFits Form.follows Form.formed Form.formedAfter Form.inForm Form.lengthsFit Form.plain Form.queueFits Form.stateFits changeAll addRows Calls.addBook Calls.addNumber Calls.addQueue Calls.addState Calls.bookAfter Calls.leaving Calls.openBook Calls.openNumber Calls.openQueue Calls.openState Calls.placeBytes Calls.queueWith Calls.rowsAfter Calls.stateAfter Paths.total Paths.transitions Paths.endings Recount.windowPart Recount.sequenceLength Recount.enter Recount.enterAll Recount.listing Claims.addRefusal bookStep runs spread listedNodes evidenceOf RecountNodes.nodesListed RecountNodes.followers RecountNodes.childrenListed RecountNodes.nodeCounted RecountNodes.recountNodes Divergence.childTerms Divergence.closed Divergence.divergence Divergence.endingTerm Divergence.lacksChild Divergence.noLess Divergence.nodeDivergence Divergence.term Walks.counted Walks.noted Walks.statsOver Walks.walk Probability.evidenceProbVector Probability.posterior Probability.probVector Probability.withEvidence Probability.withTotal Readings.filledAddresses Readings.filledFigures Readings.withPrior Readings.klReading Readings.allReading Readings.statsReading Readings.probReading Readings.evidenceReading trainAsked Training.trainRefusal Training.sizesRefusal Training.inputFits Training.pathIn Training.recountStats Training.recordsFrom Training.sequenceRecords Training.allRecords Training.addRecords addAll baselineReading statsRefusal baselineFits pastOneKnot rising risesAt allBelow figuresAt figuresAfter notAbove knotFigures lineFigures toMeanVar interpolated sumsAt putSums added flatMap add sub mul div ofInt ofBits
+rows-hold = (refl, refl, refl, refl, refl, refl, refl, refl, refl, refl, refl, refl, refl, refl, refl, refl, refl, refl, refl, refl, refl, refl, refl, refl, refl, refl, refl, refl, refl)

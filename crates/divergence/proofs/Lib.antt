@@ -29,3 +29,6 @@ pub mod IndexZero
 -- goko's methods on f64 counts give what the readings tell:
 pub mod GokoLaws
 pub mod GokoReadings
+-- the sign of zero in IEEE 754's steps, and that no reading tells minus zero:
+pub mod SignLaws
+pub mod Zeros

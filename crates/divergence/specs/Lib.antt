@@ -23,3 +23,5 @@ pub mod Claims
 pub mod Corollaries
 -- that the readings tell what goko's methods give on f64 counts:
 pub mod GokoFloats
+-- what equality of figures is, and that no reading tells minus zero:
+pub mod Zeros

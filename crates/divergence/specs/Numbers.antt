@@ -25,6 +25,10 @@ flt n = Ieee.ofInt binary64 (pos n)
 abbrev pub zero64 : Float
 zero64 = ofBits binary64 0
 
+-- minus zero
+abbrev pub minusZero64 : Float
+minusZero64 = ofBits binary64 0x8000_0000_0000_0000
+
 -- 1.0e-10
 abbrev pub tiny64 : Float
 tiny64 = ofBits binary64 0x3ddb_7cdf_d9d7_bdbb
