@@ -115,6 +115,41 @@ pub struct StatsAsked {
     pub lengths: Vec<u32>,
 }
 
+/// The least figure above 0.
+const LEAST: f64 = f64::from_bits(1);
+
+/// A knot's values: the maxima's sum and squares, and zeros for the other figures.
+fn knot_of(sum: f64, squares: f64) -> Vec<f64> {
+    let mut values = vec![0.0; KNOT_VALUES];
+    values[..2].copy_from_slice(&[sum, squares]);
+    values
+}
+
+/// Baselines where minus zero comes out: as a mean, from a sum of minus zero or of the least
+/// figure below 0 over two sequences; as a variance, from squares of minus zero; between knots, a
+/// quarter of the way from minus zero to the least figure below it. And two knots of minus zero,
+/// between which, below which and past which it must not.
+pub fn minus_zeros() -> Vec<StatsAsked> {
+    let at_knot = |sum: f64, squares: f64, sequences: u32| StatsAsked {
+        sequences,
+        knots: vec![1],
+        values: knot_of(sum, squares),
+        lengths: vec![0, 1],
+    };
+    let along = |left: f64, right: f64| {
+        let values = [knot_of(left, 0.0), knot_of(right, 0.0)].concat();
+        StatsAsked { sequences: 1, knots: vec![1, 5], values, lengths: vec![0, 1, 2, 3, 4, 5, 6, 9] }
+    };
+    vec![
+        at_knot(-0.0, 0.0, 1),
+        at_knot(-LEAST, 0.0, 2),
+        at_knot(0.0, -0.0, 1),
+        at_knot(-0.0, -0.0, 1),
+        along(-0.0, -LEAST),
+        along(-0.0, -0.0),
+    ]
+}
+
 /// A baseline of at most `most` knots with lengths at, between and around them.
 pub fn stats_asked(rng: &mut Rng, most: usize) -> StatsAsked {
     let mut knot = 0;
@@ -139,12 +174,13 @@ pub fn stats_asked(rng: &mut Rng, most: usize) -> StatsAsked {
     StatsAsked { sequences, knots, values, lengths }
 }
 
-/// Mostly plain values, now and then what an empty record leaves.
+/// Mostly plain values, now and then what an empty record leaves, or what minus zero comes of.
 fn knot_value(rng: &mut Rng) -> f64 {
     match rng.below(16) {
         0 => f64::INFINITY,
         1 => f64::MIN,
         2 => f64::MAX,
+        3 => rng.pick(&[-0.0, LEAST, -LEAST]),
         _ => rng.figure(),
     }
 }

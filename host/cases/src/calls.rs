@@ -1,6 +1,6 @@
 //! Calls as data, each with all its arguments.
 
-use recount::{Address, LentPriors, LentTables, Output};
+use recount::{same_figures, Address, LentPriors, LentTables, Output};
 
 /// Lent tables, owned.
 #[derive(Debug, Clone, Default)]
@@ -47,6 +47,11 @@ impl Places {
     /// The places as lent.
     pub fn lent(&mut self) -> Output<'_> {
         Output { addresses: &mut self.addresses, figures: &mut self.figures }
+    }
+
+    /// The same bytes, and the same figures by their bits.
+    pub fn same(&self, other: &Places) -> bool {
+        self.addresses == other.addresses && same_figures(&self.figures, &other.figures)
     }
 }
 

@@ -3,8 +3,9 @@
 
 use crate::calls::{Call, Places, PriorBytes, Tables};
 use recount::{
-    all_node_kl, evidence_prob_vector, kl_div_stats, memory, posterior_kl_divergence, prob_vector, Evidence,
-    KLDivergenceStats, Memory, NodeKlList, ProbVector, Recount, Refusal, State, Tracker,
+    all_node_kl, evidence_prob_vector, kl_div_stats, memory, posterior_kl_divergence, prob_vector,
+    same_figures, Evidence, KLDivergenceStats, Memory, NodeKlList, ProbVector, Recount, Refusal, State,
+    Tracker,
 };
 
 /// A tracker that calls can be played on. Before the first accepted opening its state is all
@@ -123,6 +124,58 @@ pub enum Answer {
     List(Result<NodeKlList, Refusal>, Places),
     /// To the statistics.
     Stats(Result<KLDivergenceStats, Refusal>),
+}
+
+impl Answer {
+    /// The same answer: numbers equal, figures and output places by their bits.
+    pub fn same(&self, other: &Answer) -> bool {
+        let figures = same_figures(&self.told(), &other.told());
+        match (self, other) {
+            (Answer::Lent, Answer::Lent) => true,
+            (Answer::Changed(one), Answer::Changed(other)) => one == other,
+            (Answer::Vector(one, left), Answer::Vector(other, right)) => {
+                let places = |vector: &Option<ProbVector>| vector.map(|vector| vector.places);
+                let same = same_result(one, other, |one, other| places(one) == places(other));
+                same && figures && left.same(right)
+            }
+            (Answer::Divergence(one), Answer::Divergence(other)) => {
+                same_result(one, other, |one, other| one.is_some() == other.is_some()) && figures
+            }
+            (Answer::List(one, left), Answer::List(other, right)) => one == other && left.same(right),
+            (Answer::Stats(one), Answer::Stats(other)) => {
+                let counts = |stats: &KLDivergenceStats| (stats.nz_count, stats.sequence_len, stats.skipped);
+                same_result(one, other, |one, other| counts(one) == counts(other)) && figures
+            }
+            _ => false,
+        }
+    }
+
+    /// The figures of the answer: those in its result, then those of the places that it filled.
+    pub fn told(&self) -> Vec<f64> {
+        let filled = |places: u32, output: &Places| output.figures[..places as usize].to_vec();
+        match self {
+            Answer::Vector(Ok(Some(vector)), output) => {
+                [vec![vector.ending], filled(vector.places, output)].concat()
+            }
+            Answer::Divergence(Ok(Some(figure))) => vec![*figure],
+            Answer::List(Ok(list), output) => filled(list.places, output),
+            Answer::Stats(Ok(stats)) => vec![stats.max, stats.min, stats.moment1_nz, stats.moment2_nz],
+            _ => Vec::new(),
+        }
+    }
+}
+
+/// The same refusal, or values that `same` holds equal.
+pub fn same_result<T>(
+    one: &Result<T, Refusal>,
+    other: &Result<T, Refusal>,
+    same: impl Fn(&T, &T) -> bool,
+) -> bool {
+    match (one, other) {
+        (Ok(one), Ok(other)) => same(one, other),
+        (Err(one), Err(other)) => one == other,
+        _ => false,
+    }
 }
 
 /// A side with what is lent to its readings.

@@ -155,6 +155,13 @@ fn set_field(rng: &mut Rng, bytes: &mut [u8], field: usize) {
     }
 }
 
+/// The node (1,0) with a singleton count, and one child, (0,0) with 1.
+pub fn one_child(singleton_count: u32) -> PriorBytes {
+    let child = Record { address: Address::new(0, 0), count: 1, link: 0 };
+    let node = Record { address: Address::new(1, 0), count: singleton_count, link: 1 };
+    Records { nodes: vec![node], children: vec![child] }.bytes()
+}
+
 /// One node whose chain has `length` children, for the limit of 64.
 pub fn long_chain(length: usize) -> PriorBytes {
     let child = |index: usize| Record {

@@ -4,7 +4,7 @@
 
 use crate::altered::{altered_add, AlteredAdd};
 use crate::baselines::{self, StatsAsked, Training};
-use crate::calls::{Call, CallList, PriorBytes, Tables};
+use crate::calls::{Call, CallList, Places, PriorBytes, Tables};
 use crate::lists::{call_list, Shape};
 use crate::paths::{path, universe};
 use crate::rng::Rng;
@@ -67,7 +67,7 @@ pub fn large_lists() -> Vec<CallList> {
     vec![list(around.concat()), list(passed.concat())]
 }
 
-/// Lists with readings in between.
+/// Lists with readings in between, and two whose divergence is plus zero only by the order of its sums.
 pub fn reading_lists() -> Vec<CallList> {
     let shape = Shape {
         addresses: 4,
@@ -78,7 +78,30 @@ pub fn reading_lists() -> Vec<CallList> {
         counts: vec![1, 3],
         ..Shape::small()
     };
-    (0..42).map(|seed| call_list(&mut Rng::new(3_500 + seed), &shape)).collect()
+    let random = (0..42).map(|seed| call_list(&mut Rng::new(3_500 + seed), &shape));
+    // Without the empty sums the first would be minus zero, with sums begun by their first term
+    // the second.
+    let zeros = [plus_zero(0, &[0.0, -0.0, 0.0]), plus_zero(1, &[0.0, 0.0, -0.0, 0.0])];
+    random.chain(zeros).collect()
+}
+
+/// One path of one step, with a prior of one child and D of zeros: the divergence is plus zero. The
+/// output holds minus zero past the answer.
+fn plus_zero(singleton_count: u32, g: &[f64]) -> CallList {
+    let node = Address::new(1, 0);
+    let output = Places { addresses: vec![0x33; 16], figures: vec![-0.0; 2] };
+    let calls = vec![
+        Call::LendTables(Tables { g: g.to_vec(), d: vec![0.0; g.len()] }),
+        Call::LendPriors(priors::one_child(singleton_count)),
+        Call::Open { window: 1, book_len: 3 * ENTRY_BYTES, queue_len: PLACE_BYTES },
+        Call::Add { path: path_bytes(&[node]) },
+        Call::PosteriorKlDivergence { node },
+        Call::AllNodeKl { output: output.clone() },
+        Call::KlDivStats,
+        Call::ProbVector { node, output: output.clone() },
+        Call::EvidenceProbVector { node, output },
+    ];
+    CallList { fill: 0xa5, calls }
 }
 
 /// Adds on altered memory.
@@ -96,9 +119,10 @@ pub fn trainings() -> Vec<Training> {
     balanced(5_000, (12, 4), |rng| baselines::training(rng, 3, 4), number)
 }
 
-/// Baselines with the lengths they are asked for.
+/// Baselines with the lengths they are asked for, and those of the minus zeros.
 pub fn stats_asked() -> Vec<StatsAsked> {
-    (0..16).map(|seed| baselines::stats_asked(&mut Rng::new(6_000 + seed), 4)).collect()
+    let random = (0..16).map(|seed| baselines::stats_asked(&mut Rng::new(6_000 + seed), 4));
+    random.chain(baselines::minus_zeros()).collect()
 }
 
 /// Tables, good and refused.

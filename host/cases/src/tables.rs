@@ -1,4 +1,4 @@
-//! Tables: squares, values close to ln gamma and digamma, random ones, and broken ones. Only
+//! Tables: squares, values close to ln gamma and digamma, random ones, zeros of either sign, and broken ones. Only
 //! once-rounded arithmetic makes them, so that every machine makes the same.
 
 use crate::calls::Tables;
@@ -46,10 +46,18 @@ pub fn good(rng: &mut Rng, last: usize) -> Tables {
     match rng.below(8) {
         0 => squares(last),
         3 => threshold(last),
+        4 => zeros(rng, last),
         1 => random(rng, last, MAX_TABLE_ENTRY),
         2 => random(rng, last, 1.0),
         _ => gamma(last),
     }
+}
+
+/// Zeros of either sign, and figures whose sums come back to them.
+fn zeros(rng: &mut Rng, last: usize) -> Tables {
+    let mut entry = |_| rng.pick(&[0.0, -0.0, 0.0, -0.0, 1.0, -1.0, f64::from_bits(1), -f64::from_bits(1)]);
+    let g = (0..=last).map(&mut entry).collect();
+    Tables { g, d: (0..=last).map(&mut entry).collect() }
 }
 
 fn random(rng: &mut Rng, last: usize, bound: f64) -> Tables {

@@ -8,7 +8,7 @@ use cases::calls::{Call, CallList, Places, PriorBytes};
 use cases::play::{Answer, History, Player, Side};
 use oracle::{Goko, NodeAddress, Panic};
 use recount::limits::{KNOT_VALUES, PLACE_BYTES, RECORD_BYTES};
-use recount::{check_priors, Address, Evidence, Refusal, Tracker};
+use recount::{check_priors, same_figure, Address, Evidence, Refusal, Tracker};
 
 /// goko's form of an address.
 fn node_address(address: Address) -> NodeAddress {
@@ -48,7 +48,7 @@ fn field(record: &[u8], index: usize) -> u32 {
 
 fn same(tally: &mut Tally, what: &str, ours: f64, theirs: f64) -> Compared {
     tally.figures += 1;
-    if ours.to_bits() == theirs.to_bits() || (ours.is_nan() && theirs.is_nan()) {
+    if same_figure(ours, theirs) {
         Ok(())
     } else {
         Err(format!("{}: here {:?}, goko has {:?}", what, ours, theirs))

@@ -10,7 +10,10 @@ use cases::play::{Answer, Bytes, History, Player, Side};
 use cases::rng::Rng;
 use cases::{paths, priors};
 use recount::limits::{ENTRY_BYTES, MAX_CHAIN, MAX_COUNT, PLACE_BYTES};
-use recount::{check_priors, evidence_prob_vector, memory, Address, Memory, Output, Refusal, State, Tracker};
+use recount::{
+    check_priors, evidence_prob_vector, is_minus_zero, memory, same_figure, same_figures, stats, Address,
+    Memory, Output, Refusal, State, Tracker,
+};
 
 fn must(holds: bool, what: &str) -> Compared {
     if holds {
@@ -46,8 +49,8 @@ fn check_call(
     let answer = bytes.play(call);
     tally.answer(&answer);
     let recounted = history.play(call);
-    let (left, right) = (format!("{:?}", recounted), format!("{:?}", answer));
-    must(left == right, &format!("the history answers {}, the bytes {}", left, right))?;
+    must(recounted.same(&answer), &format!("the history answers {:?}, the bytes {:?}", recounted, answer))?;
+    must(!answer.told().into_iter().any(is_minus_zero), "a reading told minus zero")?;
     let after = shown(&bytes.side);
     match answer {
         Answer::Changed(Ok(())) => {
@@ -72,13 +75,12 @@ fn check_output(call: &Call, answer: &Answer) -> Compared {
         }
         _ => return Ok(()),
     };
-    must(past(lent, filled) == past(left, filled), "places past the answer changed")
+    must(past(lent, filled).same(&past(left, filled)), "places past the answer changed")
 }
 
-fn past(places: &Places, filled: u32) -> (Vec<u8>, Vec<u64>) {
+fn past(places: &Places, filled: u32) -> Places {
     let filled = filled as usize;
-    let figures = places.figures[filled..].iter().map(|figure| figure.to_bits()).collect();
-    (places.addresses[8 * filled..].to_vec(), figures)
+    Places { addresses: places.addresses[8 * filled..].to_vec(), figures: places.figures[filled..].to_vec() }
 }
 
 /// An add on altered memory.
@@ -149,7 +151,6 @@ fn count(entry: &[u8]) -> u32 {
 /// A training: refused before its work it changes nothing, stopped it leaves zeros.
 pub fn check_training(training: &Training, tally: &mut Tally) -> Compared {
     let mut after = training.clone();
-    let figures = |values: &[f64]| values.iter().map(|value| value.to_bits()).collect::<Vec<u64>>();
     let zero_book = |book: &[u8]| book.iter().all(|byte| *byte == 0);
     let answer = after.run();
     tally.result(&answer);
@@ -159,22 +160,39 @@ pub fn check_training(training: &Training, tally: &mut Tally) -> Compared {
             must(zero_book(&after.book), "the book is not all zero after a training")?;
             must(after.knots[count..] == training.knots[count..], "knots past the answer changed")?;
             let (left, lent) = (&after.values[10 * count..], &training.values[10 * count..]);
-            must(figures(left) == figures(lent), "values past the answer changed")
+            must(same_figures(left, lent), "values past the answer changed")?;
+            check_trained(&after, count)
         }
         Err(Refusal { number: 10 | 12 | 14 | 15, .. }) => {
             must(zero_book(&after.book), "the book is not all zero after a stop")?;
             must(after.knots.iter().all(|knot| *knot == 0), "knots are not zero after a stop")?;
-            must(figures(&after.values).iter().all(|bits| *bits == 0), "values are not zero after a stop")
+            must(
+                after.values.iter().all(|value| same_figure(*value, 0.0)),
+                "values are not plus zero after a stop",
+            )
         }
         Err(_) => {
             must(
                 after.book == training.book && after.knots == training.knots,
                 "a refused training changed something",
             )?;
-            must(figures(&after.values) == figures(&training.values), "a refused training changed values")
+            must(same_figures(&after.values, &training.values), "a refused training changed values")
         }
     }
     .map_err(|text| format!("{:#?}\n{}", training, text))
+}
+
+/// No sum of a trained baseline is minus zero, nor any figure that it gives at a length.
+fn check_trained(trained: &Training, count: usize) -> Compared {
+    let (knots, values) = (&trained.knots[..count], &trained.values[..10 * count]);
+    must(!values.iter().any(|value| is_minus_zero(*value)), "a training left minus zero")?;
+    let last = knots.last().copied().unwrap_or(0);
+    for length in 0..=2 * last + 3 {
+        let told = stats(trained.sequences, knots, values, length).map(|stats| stats.ten_values());
+        let minus_zero = told.is_ok_and(|told| told.into_iter().any(is_minus_zero));
+        must(!minus_zero, &format!("a trained baseline gives minus zero at length {}", length))?;
+    }
+    Ok(())
 }
 
 /// Damaged priors get a number from 3 to 7, or are in order after all.

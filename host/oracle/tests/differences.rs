@@ -39,8 +39,9 @@ fn a_missing_child_goes_unseen_where_the_table_ends_before_it() {
 
 #[test]
 fn zeros_below_the_first_knot_and_without_knots() {
-    assert_eq!(stats(1, &[2], &[1.0; 10], 1), Ok([0.0; 10]));
-    assert_eq!(stats(1, &[], &[], 1), Ok([0.0; 10]));
+    let bits = |told: Result<[f64; 10], Panic>| told.map(|figures| figures.map(f64::to_bits));
+    assert_eq!(bits(stats(1, &[2], &[-0.0; 10], 1)), Ok([0; 10]));
+    assert_eq!(bits(stats(1, &[], &[], 1)), Ok([0; 10]));
 }
 
 #[test]
@@ -103,13 +104,28 @@ fn a_prior_without_singletons_drops_the_endings_term() {
 }
 
 #[test]
+fn no_divergence_is_minus_zero() {
+    let told = |singleton_count: u32, g: &[f64]| {
+        lend_tables(g, &vec![0.0; g.len()]);
+        let mut goko = Goko::open(0);
+        goko.lend_priors(&[prior(NODE, singleton_count, &[(CHILD, 1)])]);
+        goko.add_path(&[NODE]).unwrap();
+        goko.posterior_kl_divergence(NODE).unwrap().unwrap().unwrap().to_bits()
+    };
+    // G(1) - 0 - G(2) + 0 + 0: without the empty sums it would be minus zero.
+    assert_eq!(told(0, &[0.0, -0.0, 0.0]), 0);
+    // G(2) - G(1) - G(3) + G(2) - 0: with the last two begun by their first term it would be, too.
+    assert_eq!(told(1, &[0.0, 0.0, -0.0, 0.0]), 0);
+}
+
+#[test]
 fn prior_children_outside_the_evidence_enter_no_sum() {
     lend_tables(&[0.0, 0.1, 0.2, 0.7], &[0.0; 4]);
     let mut goko = Goko::open(0);
     goko.lend_priors(&[prior(NODE, 1, &[(CHILD, 1)])]);
     goko.add_path(&[NODE]).unwrap();
     let result = goko.posterior_kl_divergence(NODE).unwrap().unwrap().unwrap();
-    assert_eq!(result, 0.0, "below 0 it becomes 0");
+    assert_eq!(result.to_bits(), 0, "below 0 it becomes 0");
     let (g1, g2, g3): (f64, f64, f64) = (-0.7, 0.1, -0.3);
     lend_tables(&[0.0, g1, g2, g3], &[0.0; 4]);
     let result = goko.posterior_kl_divergence(NODE).unwrap().unwrap().unwrap();

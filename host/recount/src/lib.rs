@@ -5,6 +5,7 @@
 
 mod address;
 mod evidence;
+mod figures;
 pub mod limits;
 pub mod memory;
 mod priors;
@@ -17,6 +18,7 @@ mod training;
 
 pub use address::{path_bytes, Address};
 pub use evidence::{Evidence, NodeEvidence};
+pub use figures::{is_minus_zero, same_figure, same_figures};
 pub use memory::{add_path, open, Memory};
 pub use priors::{check_priors, LentPriors, Prior, Priors};
 pub use readings::{

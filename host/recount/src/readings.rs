@@ -38,7 +38,7 @@ impl Output<'_> {
 }
 
 /// What stands in the result of a probability vector; its children are in the output.
-#[derive(Debug, Clone, Copy, PartialEq)]
+#[derive(Debug, Clone, Copy)]
 pub struct ProbVector {
     /// Places filled, one a child.
     pub places: u32,
@@ -56,7 +56,7 @@ pub struct NodeKlList {
 }
 
 /// The statistics over divergences above the threshold.
-#[derive(Debug, Clone, Copy, PartialEq)]
+#[derive(Debug, Clone, Copy)]
 pub struct KLDivergenceStats {
     /// The maximum, f64::MIN if there are none.
     pub max: f64,

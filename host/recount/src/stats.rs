@@ -6,7 +6,7 @@ use crate::limits::{KNOT_VALUES, MAX_KNOTS, SEQUENCES};
 use crate::refusal::{refuse, Refusal};
 
 /// One figure's mean and variance.
-#[derive(Debug, Clone, Copy, PartialEq, Default)]
+#[derive(Debug, Clone, Copy, Default)]
 pub struct MeanVariance {
     /// The mean over the sequences.
     pub mean: f64,
@@ -15,7 +15,7 @@ pub struct MeanVariance {
 }
 
 /// The five figures of a baseline at one length.
-#[derive(Debug, Clone, Copy, PartialEq, Default)]
+#[derive(Debug, Clone, Copy, Default)]
 pub struct KLDivergenceBaselineStats {
     /// Of the maximum.
     pub max: MeanVariance,

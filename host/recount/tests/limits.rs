@@ -259,9 +259,10 @@ fn a_15_at_a_lower_node_comes_before_a_14_at_a_higher_one() {
     let lent = LentPriors { nodes: &nodes, children: &[] };
     let mut recount = Recount::open(0, 240, 0).unwrap();
     recount.add_path(&path_bytes(&[high, low])).unwrap();
-    let refused = |table: &[f64]| kl_div_stats(&recount, LentTables { g: table, d: table }, lent);
-    assert_eq!(refused(&[0.0; 3]), Err(Refusal::at(15, low)));
-    assert_eq!(refused(&[0.0; 4]), Err(Refusal::at(14, high)));
+    let refused =
+        |table: &[f64]| kl_div_stats(&recount, LentTables { g: table, d: table }, lent).unwrap_err();
+    assert_eq!(refused(&[0.0; 3]), Refusal::at(15, low));
+    assert_eq!(refused(&[0.0; 4]), Refusal::at(14, high));
     let mut output = Output { addresses: &mut [0; 8], figures: &mut [0.0; 1] };
     let list = all_node_kl(&recount, LentTables { g: &[0.0; 3], d: &[0.0; 3] }, lent, &mut output);
     assert_eq!(list, Err(Refusal::plain(13)), "13 comes before both");
@@ -307,5 +308,6 @@ fn order_of_a_readings_refusals() {
     let mut output = Output { addresses: &mut [], figures: &mut [] };
     assert_eq!(number(evidence_prob_vector(&broken, at, &mut output)), 9);
     assert_eq!(number(evidence_prob_vector(&whole, at, &mut output)), 13);
-    assert_eq!(evidence_prob_vector(&whole, Address::new(9, 9), &mut output), Ok(None), "none is never a 13");
+    let none = evidence_prob_vector(&whole, Address::new(9, 9), &mut output);
+    assert!(matches!(none, Ok(None)), "none is never a 13");
 }

@@ -5,74 +5,14 @@ use crate::calls::{Archive, Held, Told};
 use cases::altered::AlteredAdd;
 use cases::baselines::{StatsAsked, Training};
 use cases::calls::{Call, CallList, Places, PriorBytes, Tables};
-use cases::play::{Answer, History, Player, Side};
+use cases::play::{same_result, Answer, History, Player, Side};
 use compare::goko::{self, Beside};
 use compare::{Compared, Tally};
 use recount::{
     all_node_kl, check_priors, check_tables, evidence_prob_vector, kl_div_stats, memory,
-    posterior_kl_divergence, prob_vector, Address, Memory, Refusal,
+    posterior_kl_divergence, prob_vector, same_figures, Address, Memory,
 };
 use std::fmt::Debug;
-
-/// Equal as numbers' bits; a NaN equals any NaN.
-fn same_figure(one: f64, other: f64) -> bool {
-    one.to_bits() == other.to_bits() || (one.is_nan() && other.is_nan())
-}
-
-fn same_figures(one: &[f64], other: &[f64]) -> bool {
-    one.len() == other.len() && one.iter().zip(other).all(|(one, other)| same_figure(*one, *other))
-}
-
-fn same_places(one: &Places, other: &Places) -> bool {
-    one.addresses == other.addresses && same_figures(&one.figures, &other.figures)
-}
-
-/// Equal answers, by `same` where both have a value.
-fn same_result<T>(
-    one: &Result<T, Refusal>,
-    other: &Result<T, Refusal>,
-    same: impl Fn(&T, &T) -> bool,
-) -> bool {
-    match (one, other) {
-        (Ok(one), Ok(other)) => same(one, other),
-        (Err(one), Err(other)) => one == other,
-        _ => false,
-    }
-}
-
-fn same_option<T>(one: &Option<T>, other: &Option<T>, same: impl Fn(&T, &T) -> bool) -> bool {
-    match (one, other) {
-        (Some(one), Some(other)) => same(one, other),
-        (None, None) => true,
-        _ => false,
-    }
-}
-
-fn same_answer(one: &Answer, other: &Answer) -> bool {
-    match (one, other) {
-        (Answer::Lent, Answer::Lent) => true,
-        (Answer::Changed(one), Answer::Changed(other)) => one == other,
-        (Answer::Vector(one, left), Answer::Vector(other, right)) => {
-            let same = |one: &recount::ProbVector, other: &recount::ProbVector| {
-                one.places == other.places && same_figure(one.ending, other.ending)
-            };
-            same_result(one, other, |one, other| same_option(one, other, same)) && same_places(left, right)
-        }
-        (Answer::Divergence(one), Answer::Divergence(other)) => same_result(one, other, |one, other| {
-            same_option(one, other, |one, other| same_figure(*one, *other))
-        }),
-        (Answer::List(one, left), Answer::List(other, right)) => one == other && same_places(left, right),
-        (Answer::Stats(one), Answer::Stats(other)) => same_result(one, other, |one, other| {
-            let figures = |stats: &recount::KLDivergenceStats| {
-                [stats.max, stats.min, stats.moment1_nz, stats.moment2_nz]
-            };
-            let counts =
-                |stats: &recount::KLDivergenceStats| (stats.nz_count, stats.sequence_len, stats.skipped);
-            counts(one) == counts(other) && same_figures(&figures(one), &figures(other))
-        }),
-        _ => false,
-    }
-}
 
 fn must(holds: bool, what: impl FnOnce() -> String) -> Compared {
     if holds {
@@ -146,7 +86,7 @@ fn one_call(
     let answer = play(archive, call, fill)?;
     let recounted = history.play(call);
     tally.answer(&recounted);
-    must(same_answer(&recounted, &answer), || differ("answer", &recounted, &answer))?;
+    must(recounted.same(&answer), || differ("answer", &recounted, &answer))?;
     if let Answer::Changed(Ok(())) = answer {
         let side = &history.side;
         *image = Some(Held { state: side.state(), book: side.book(), queue: side.queue() });
@@ -174,7 +114,7 @@ pub fn altered(
         let answer = play(archive, &call, 0)?;
         let recounted = read_altered(add, &call, tables, priors);
         tally.answer(&recounted);
-        must(same_answer(&recounted, &answer), || {
+        must(recounted.same(&answer), || {
             format!("{:?} on {:?}\n{}", call, add, differ("answer", &recounted, &answer))
         })?;
         must(archive.holds(&held), || format!("{:?} changed {:?}", call, add))?;

@@ -1,0 +1,31 @@
+//! Equality of figures: the same 64 bits, or a NaN each. Plus zero and minus zero are two figures.
+//! No other comparison of figures decides whether answers agree: the records that hold them have
+//! no `PartialEq`.
+
+/// The same figure.
+pub fn same_figure(one: f64, other: f64) -> bool {
+    one.to_bits() == other.to_bits() || (one.is_nan() && other.is_nan())
+}
+
+/// The same figures, and as many.
+pub fn same_figures(one: &[f64], other: &[f64]) -> bool {
+    one.len() == other.len() && one.iter().zip(other).all(|(one, other)| same_figure(*one, *other))
+}
+
+/// Minus zero.
+pub fn is_minus_zero(figure: f64) -> bool {
+    same_figure(figure, -0.0)
+}
+
+#[cfg(test)]
+mod tests {
+    use super::*;
+
+    #[test]
+    fn zeros_differ_and_nans_do_not() {
+        assert!(!same_figure(0.0, -0.0) && same_figure(-0.0, -0.0));
+        assert!(same_figure(f64::NAN, -f64::from_bits(f64::NAN.to_bits() + 1)));
+        assert!(!same_figure(f64::NAN, f64::INFINITY));
+        assert!(!same_figures(&[1.0], &[1.0, 1.0]) && !same_figures(&[1.0, 0.0], &[1.0, -0.0]));
+    }
+}
