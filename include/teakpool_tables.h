@@ -65,12 +65,16 @@ static inline struct teakpool_pair teakpool_pair_next_ln(struct teakpool_pair ln
 }
 
 /* Fills g and d, `length` elements each, and returns them as tables to lend. Index k holds the value at k; index 0, which no call
- * reads, becomes 0. teakpool.h says under 15 what length is needed; every call wants one of 2 to TEAKPOOL_MAX_TABLE. */
+ * reads, becomes 0. teakpool.h says under 15 what length is needed; every call wants one of 2 to TEAKPOOL_MAX_TABLE. Where g or d is
+ * NULL nothing is filled, and every call refuses the tables by 1. */
 static inline struct teakpool_tables teakpool_gamma_tables(double *g, double *d, size_t length)
 {
     /* at k = 1: ln 1, ln gamma and digamma, which is minus Euler's constant */
     struct teakpool_pair ln = {0.0, 0.0}, ln_gamma = {0.0, 0.0}, digamma = {-0.57721566490153287, 4.9429151524306451e-18};
     size_t k;
+    if (g == NULL || d == NULL) {
+        return teakpool_make_tables(teakpool_make_g(NULL, length), teakpool_make_d(NULL, length));
+    }
     if (length > 0) {
         g[0] = 0.0;
         d[0] = 0.0;

@@ -1,5 +1,6 @@
-/* The calls over structs: each answers what its plain function answers, NULL stands for a slice of length 0, and a tracker or a
- * baseline is refused until it is opened or trained. Tables with G(k) = k * k and D(k) = 4k make every divergence a whole number. */
+/* The calls over structs: each answers what its plain function answers, NULL stands for a slice of length 0 and is refused with
+ * another, and a tracker or a baseline is refused until it is opened or trained. Tables with G(k) = k * k and D(k) = 4k make every
+ * divergence a whole number. */
 #include "teakpool.h"
 #include "bytes.h"
 
@@ -223,6 +224,55 @@ static void nothing_lent(void)
     lend(LENGTH - 1);
 }
 
+/* NULL with a length, as an allocation that failed leaves it: every call that needs what is missing refuses it. */
+static void something_missing(void)
+{
+    uint8_t addresses[2 * TEAKPOOL_STEP_SIZE];
+    uint32_t knots[1];
+    double figures[2], values[TEAKPOOL_KNOT_VALUES];
+    struct teakpool_vector vector;
+    struct teakpool_book no_book = teakpool_make_book(NULL, sizeof book_bytes);
+    struct teakpool_queue queue = teakpool_make_queue(queue_bytes, sizeof queue_bytes);
+    struct teakpool_baseline baseline = teakpool_make_baseline(knots, values, 1);
+    expect(teakpool_tables_check(teakpool_make_tables(teakpool_make_g(NULL, LENGTH), teakpool_make_d(NULL, LENGTH))) ==
+               TEAKPOOL_TABLE_LENGTHS,
+           "missing tables");
+    expect(teakpool_tables_check(teakpool_make_tables(teakpool_make_g(NULL, LENGTH), tables.d)) == TEAKPOOL_TABLE_LENGTHS,
+           "a missing table of ln gamma");
+    expect(teakpool_tables_check(teakpool_make_tables(tables.g, teakpool_make_d(NULL, LENGTH))) == TEAKPOOL_TABLE_LENGTHS,
+           "a missing table of digamma");
+    expect(teakpool_priors_check(teakpool_make_priors(teakpool_make_nodes(NULL, sizeof nodes), priors.children)) ==
+               TEAKPOOL_PRIOR_SIZES,
+           "missing node records");
+    expect(teakpool_priors_check(teakpool_make_priors(priors.nodes, teakpool_make_children(NULL, sizeof children))) ==
+               TEAKPOOL_PRIOR_SIZES,
+           "missing child records");
+    tracker = teakpool_make_tracker(no_book, queue);
+    expect(teakpool_tracker_open(&tracker, 1) == TEAKPOOL_FORM, "a missing book");
+    expect(teakpool_baseline_train(&baseline, priors, tables, sequences, no_book) == TEAKPOOL_FORM, "no book to train in");
+    tracker = teakpool_make_tracker(teakpool_make_book(book_bytes, sizeof book_bytes),
+                                    teakpool_make_queue(NULL, sizeof queue_bytes));
+    expect(teakpool_tracker_open(&tracker, 1) == TEAKPOOL_FORM, "a missing queue");
+    expect(teakpool_tracker_open(&tracker, 0) == TEAKPOOL_DONE, "a missing queue that is not needed");
+    expect(teakpool_tracker_add_path(&tracker, teakpool_make_path(NULL, sizeof path_bytes)) == TEAKPOOL_PATH_LENGTH,
+           "a missing path");
+    open_and_add(9);
+    expect(teakpool_tracker_prob_vector(&tracker, priors, node, teakpool_make_output(NULL, figures, 2), &vector) ==
+               TEAKPOOL_OUTPUT_SHORT,
+           "missing addresses");
+    expect(teakpool_tracker_prob_vector(&tracker, priors, node, teakpool_make_output(addresses, NULL, 2), &vector) ==
+               TEAKPOOL_OUTPUT_SHORT,
+           "missing figures");
+    expect(teakpool_baseline_train(&baseline, priors, tables,
+                                   teakpool_make_sequences(NULL, sizeof sequence_bytes, 2, 1, 1), tracker.book) ==
+               TEAKPOOL_TRAINING_INPUT,
+           "missing sequences");
+    baseline = teakpool_make_baseline(NULL, values, 1);
+    expect(teakpool_baseline_train(&baseline, priors, tables, sequences, tracker.book) == TEAKPOOL_OUTPUT_SHORT, "missing knots");
+    baseline = teakpool_make_baseline(knots, NULL, 1);
+    expect(teakpool_baseline_train(&baseline, priors, tables, sequences, tracker.book) == TEAKPOOL_OUTPUT_SHORT, "missing values");
+}
+
 static void fields(void)
 {
     uint8_t bytes[TEAKPOOL_RECORD_SIZE];
@@ -248,6 +298,7 @@ int main(void)
     trials();
     baselines();
     nothing_lent();
+    something_missing();
     if (failures == 0) {
         printf("structs: every call answers as its plain function\n");
     }
