@@ -6,9 +6,9 @@
  *
  * Every call but teakpool_version is declared twice. The plain functions come first; they are what the archive has, and take each
  * slice as a pointer and a length. After them the same calls take structs, one for each group of things lent, and are `static inline`
- * over the plain ones. In these a slice or a group that was made for another place does not compile; NULL stands for a slice of
- * length 0, and with another length leads to a refusal. What a slice is made of is the caller's word: -Wall -Wextra -Werror has the
- * compiler refuse wrong elements there.
+ * over the plain ones. In these a slice, a group or a training's number that was made for another place does not compile; NULL
+ * stands for a slice of length 0, and with another length leads to a refusal. What a slice is made of is the caller's word: -Wall
+ * -Wextra -Werror has the compiler refuse wrong elements there.
  *
  * What every function but teakpool_version returns
  *   TEAKPOOL_DONE (0)    the call is carried out and its answer is written;
@@ -386,15 +386,35 @@ static inline struct teakpool_address teakpool_make_address(int32_t scale, uint3
     return address;
 }
 
+/* The numbers of a training: how many sequences, how many paths each has, and every how many paths there is a knot. Each has a type
+ * of its own: s and n in each other's place fit the same bytes, and no call could tell. */
+#define TEAKPOOL_NUMBER(name)                                                  \
+    struct teakpool_##name {                                                   \
+        uint32_t number;                                                       \
+    };                                                                         \
+    static inline struct teakpool_##name teakpool_make_##name(uint32_t number) \
+    {                                                                          \
+        struct teakpool_##name made;                                           \
+        made.number = number;                                                  \
+        return made;                                                           \
+    }
+
+TEAKPOOL_NUMBER(s)
+TEAKPOOL_NUMBER(n)
+TEAKPOOL_NUMBER(rate)
+#undef TEAKPOOL_NUMBER
+
 /* A training's sequences: s sequences of n paths, 516 bytes a path, and a knot at every rate-th path. */
 struct teakpool_sequences {
     const uint8_t *at;
     size_t length;
-    uint32_t s, n, rate;
+    struct teakpool_s s;
+    struct teakpool_n n;
+    struct teakpool_rate rate;
 };
 
-static inline struct teakpool_sequences teakpool_make_sequences(const uint8_t *at, size_t length, uint32_t s, uint32_t n,
-                                                                uint32_t rate)
+static inline struct teakpool_sequences teakpool_make_sequences(const uint8_t *at, size_t length, struct teakpool_s s,
+                                                                struct teakpool_n n, struct teakpool_rate rate)
 {
     struct teakpool_sequences sequences;
     sequences.at = at != NULL ? at : (const uint8_t *)teakpool_nowhere();
@@ -587,12 +607,12 @@ static inline uint32_t teakpool_baseline_train(struct teakpool_baseline *baselin
                                                struct teakpool_book book)
 {
     uint32_t code = teakpool_train(tables.g.at, tables.g.length, tables.d.at, tables.d.length, priors.nodes.at, priors.nodes.length,
-                                   priors.children.at, priors.children.length, sequences.at, sequences.length, sequences.s,
-                                   sequences.n, sequences.rate, book.at, book.length, baseline->knots, baseline->room,
-                                   baseline->values, TEAKPOOL_KNOT_VALUES * baseline->room, &baseline->count, &baseline->node.scale,
-                                   &baseline->node.point);
+                                   priors.children.at, priors.children.length, sequences.at, sequences.length,
+                                   sequences.s.number, sequences.n.number, sequences.rate.number, book.at, book.length,
+                                   baseline->knots, baseline->room, baseline->values, TEAKPOOL_KNOT_VALUES * baseline->room,
+                                   &baseline->count, &baseline->node.scale, &baseline->node.point);
     if (code == TEAKPOOL_DONE) {
-        baseline->s = sequences.s;
+        baseline->s = sequences.s.number;
     } else if (code == TEAKPOOL_PATH_LENGTH || code == TEAKPOOL_BOOK_FULL || code == TEAKPOOL_MISSING_CHILD ||
                code == TEAKPOOL_PAST_TABLE) {
         baseline->s = 0;

@@ -52,7 +52,8 @@ static void lend(size_t last)
     memcpy(sequence_bytes + TEAKPOOL_PLACE_SIZE + 4, path_bytes, TEAKPOOL_STEP_SIZE);
     tables = teakpool_make_tables(teakpool_make_g(g, last + 1), teakpool_make_d(d, last + 1));
     priors = teakpool_make_priors(teakpool_make_nodes(nodes, sizeof nodes), teakpool_make_children(children, sizeof children));
-    sequences = teakpool_make_sequences(sequence_bytes, sizeof sequence_bytes, 2, 1, 1);
+    sequences = teakpool_make_sequences(sequence_bytes, sizeof sequence_bytes, teakpool_make_s(2), teakpool_make_n(1),
+                                        teakpool_make_rate(1));
 }
 
 /* Three paths: that by (0,point), and twice (-1,3) alone, which has no prior. */
@@ -187,7 +188,7 @@ static void baselines(void)
     expect(usual.sum.mean == 9.0 && usual.sum.variance == 1.0, "sums 8 and 10");
     expect(usual.sum_of_squares.mean == 70.0 && usual.sum_of_squares.variance == 900.0, "sums of squares 40 and 100");
     expect(teakpool_baseline_stats(&baseline, 2, &usual) == TEAKPOOL_ONE_KNOT && usual.maximum.mean == 8.0, "past the only knot");
-    sequences.rate = 0;
+    sequences.rate.number = 0;
     expect(teakpool_baseline_train(&baseline, priors, tables, sequences, work_book) == TEAKPOOL_TRAINING_INPUT, "a rate of 0");
     expect(baseline.s == 2 && baseline.count == 1, "a training that is refused before its work leaves the baseline");
     lend(6);
@@ -217,7 +218,7 @@ static void nothing_lent(void)
     expect(teakpool_tracker_add_path(&tracker, path_by(9)) == TEAKPOOL_DONE, "an add without a queue");
     expect(teakpool_tracker_all_node_kl(&tracker, no_priors, tables, no_output, &list) == TEAKPOOL_DONE, "no output");
     expect(list.places == 0 && list.skipped == 3, "every node is skipped");
-    sequences = teakpool_make_sequences(NULL, 0, 1, 0, 1);
+    sequences = teakpool_make_sequences(NULL, 0, teakpool_make_s(1), teakpool_make_n(0), teakpool_make_rate(1));
     expect(teakpool_baseline_train(&baseline, no_priors, tables, sequences, tracker.book) == TEAKPOOL_DONE,
            "a training on no paths");
     expect(teakpool_baseline_stats(&baseline, 7, &usual) == TEAKPOOL_DONE && usual.sum.mean == 0.0, "a baseline without knots");
@@ -263,10 +264,9 @@ static void something_missing(void)
     expect(teakpool_tracker_prob_vector(&tracker, priors, node, teakpool_make_output(addresses, NULL, 2), &vector) ==
                TEAKPOOL_OUTPUT_SHORT,
            "missing figures");
-    expect(teakpool_baseline_train(&baseline, priors, tables,
-                                   teakpool_make_sequences(NULL, sizeof sequence_bytes, 2, 1, 1), tracker.book) ==
-               TEAKPOOL_TRAINING_INPUT,
-           "missing sequences");
+    struct teakpool_sequences none =
+        teakpool_make_sequences(NULL, sizeof sequence_bytes, sequences.s, sequences.n, sequences.rate);
+    expect(teakpool_baseline_train(&baseline, priors, tables, none, tracker.book) == TEAKPOOL_TRAINING_INPUT, "missing sequences");
     baseline = teakpool_make_baseline(NULL, values, 1);
     expect(teakpool_baseline_train(&baseline, priors, tables, sequences, tracker.book) == TEAKPOOL_OUTPUT_SHORT, "missing knots");
     baseline = teakpool_make_baseline(knots, NULL, 1);
