@@ -19,6 +19,10 @@ for standard in c99 c11; do
         tail -n 1 "$work/told"
     done
 done
+for standard in c99 c11; do
+    cc -std="$standard" -O1 $strict -Iinclude examples/c/arguments.c -o "$work/program"
+    "$work/program"
+done
 build "c++ -x c++" c++11 examples/c/drift.c
 "$work/program" | tail -n 1
 build c++ c++11 examples/cpp/drift.cpp
@@ -62,6 +66,41 @@ for other in "$parts" "$logged" "$packed" "${told#teakpool }"; do
     [ "$other" = "$version" ] || { echo "versions: $other is not the header's $version" && exit 1; }
 done
 echo "versions: $version in header, archive, change log, pkg-config file, crate and ./run"
+
+# Every number that the header defines is the one in the sources, where two of them have shorter names; TEAKPOOL_STACK is measured
+# below, and the structs program meets TEAKPOOL_PATH_ENTRIES. The refusals have the names and numbers of the Rust crate, which holds
+# them against docs/RULES.md.
+constants_hold() { # HEADER
+    local name value source lines=0
+    sed -n 's/^#define TEAKPOOL_\([A-Z_]*\) \([0-9]*\)u$/\1 \2/p' "$1" | grep -v -e '^VERSION_' -e '^STACK ' -e '^PATH_ENTRIES ' >"$work/defined"
+    while read -r name value; do
+        case $name in
+        DONE) source=0 ;;
+        MAX_PATHS_ACCEPTED) source=$(in_sources MAX_ACCEPTED) ;;
+        MAX_SEQUENCE_PATHS) source=$(in_sources MAX_PATHS) ;;
+        *) source=$(in_sources "$name") ;;
+        esac
+        [ "$value" = "$source" ] || { echo "constants: TEAKPOOL_$name is $value, and in the sources '$source'" && return 1; }
+        lines=$((lines + 1))
+    done <"$work/defined"
+    [ "$lines" -eq 19 ] || { echo "constants: $lines numbers, and not 19" && return 1; }
+    sed -n 's/^    TEAKPOOL_\([A-Z_]*\) = \([0-9]*\),\{0,1\} .*$/\1 \2/p' "$1" >"$work/refusals"
+    sed -n 's/^            Refusal::\([A-Za-z]*\)\((_)\)\{0,1\} => \([0-9]*\),$/\1 \3/p' host/teakpool/src/refusal.rs |
+        sed 's/\([a-z]\)\([A-Z]\)/\1_\2/g' | tr a-z A-Z | diff - "$work/refusals" || return 1
+    [ "$(wc -l <"$work/refusals")" -eq 18 ] || { echo "constants: not 18 refusals" && return 1; }
+}
+in_sources() { # NAME
+    sed -n "s/^\(pub \)\{0,1\}const $1: u[0-9a-z]* = \([0-9]*\);\$/\2/p" crates/{priors,book,divergence,baseline,exports}/src/*.rt | sort -u
+}
+constants_hold include/teakpool.h
+for change in 's/MAX_WINDOW 1024u/MAX_WINDOW 1025u/' 's/KNOT_VALUES 10u/KNOT_VALUES 11u/' '/MAX_CHAIN/d' 's/_LINKS = 5/_LINKS = 6/' \
+    's/_WINDOW = 8/_WINDOWS = 8/' '/_ONE_KNOT = 18/d'; do
+    sed "$change" include/teakpool.h >"$work/changed.h"
+    if constants_hold "$work/changed.h" >"$work/told"; then
+        echo "constants: '$change' is not noticed" && exit 1
+    fi
+done
+echo "constants: the header's numbers are those of the sources"
 
 stated=$(sed -n 's/^#define TEAKPOOL_STACK \([0-9]*\)u$/\1/p' include/teakpool.h)
 objdump -dr --no-show-raw-insn "$archive" | awk -f examples/c/stack.awk >"$work/stack"
