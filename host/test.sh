@@ -59,7 +59,7 @@ if ../prebuilt/archive >target/archive.path; then
     [ "$(wc -l < target/example.csv)" -eq 181 ]
     echo "the example day: the report is the stored one"
     cargo test --release --offline --quiet -p teakpool -p watch
-    cargo build --release --offline --quiet -p teakpool --no-default-features
+    cargo test --release --offline --quiet -p teakpool --no-default-features
     sed -n '/^```rust$/,/^```$/p' ../README.md | sed '/^```/d' | diff - teakpool/examples/readme.rs
     cargo run --release --offline --quiet -p through -- $long "$@"
     cargo check --release --offline --quiet -p bench

@@ -49,7 +49,8 @@ pub struct BaselineStats {
 ///
 /// Two sequences of one path each:
 ///
-/// ```
+#[cfg_attr(feature = "std", doc = "```")]
+#[cfg_attr(not(feature = "std"), doc = "```ignore")]
 /// use teakpool::*;
 ///
 /// # fn main() -> Result<(), Refusal> {

@@ -9,10 +9,10 @@ use crate::{Address, Refusal};
 /// ```
 /// use teakpool::{Refusal, Tables};
 ///
-/// let tables = teakpool::gamma_tables(40);
-/// assert_eq!(tables.lent().check(), Ok(()));
-/// let unequal = Tables::new(&tables.g, &tables.d[..40]);
-/// assert_eq!(unequal.check(), Err(Refusal::TableLengths));
+/// let (mut g, mut d) = ([0.0; 41], [0.0; 41]);
+/// teakpool::fill_gamma_tables(&mut g, &mut d);
+/// assert_eq!(Tables::new(&g, &d).check(), Ok(()));
+/// assert_eq!(Tables::new(&g, &d[..40]).check(), Err(Refusal::TableLengths));
 /// ```
 #[derive(Debug, Clone, Copy)]
 #[non_exhaustive]
