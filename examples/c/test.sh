@@ -140,17 +140,48 @@ for change in 's/MAX_WINDOW 1024u/MAX_WINDOW 1025u/' 's/KNOT_VALUES 10u/KNOT_VAL
 done
 echo "constants: the header's numbers are those of the sources"
 
-stated=$(sed -n 's/^#define TEAKPOOL_STACK \([0-9]*\)u$/\1/p' include/teakpool.h)
-objdump -dr --no-show-raw-insn "$archive" | awk -f examples/c/stack.awk >"$work/stack"
+# Every exported function is measured, and none takes more than the header states. A number that is missing is no pass.
+nm "$archive" | sed -n 's/^.* T \(teakpool_.*\)$/\1/p' | sort >"$work/exported"
+stack_holds() { # HEADER MEASURED
+    local stated taken
+    stated=$(sed -n 's/^#define TEAKPOOL_STACK \([0-9]*\)u$/\1/p' "$1")
+    taken=$(sort -n "$2" | sed -n '$s/^\([0-9]*\) .*$/\1/p')
+    [[ $stated =~ ^[0-9]+$ ]] || { echo "stack: the header states no number" && return 1; }
+    [[ $taken =~ ^[0-9]+$ ]] || { echo "stack: no number was measured" && return 1; }
+    sed -n 's/^[0-9][0-9]* \(teakpool_[a-z_]*\)$/\1/p' "$2" | sort | diff "$work/exported" - ||
+        { echo "stack: not every function was measured" && return 1; }
+    [ "$taken" -le "$stated" ] || { echo "stack: a call can take $taken bytes, and the header states $stated" && return 1; }
+}
+objdump -dr --no-show-raw-insn "$archive" >"$work/code"
+awk -f examples/c/stack.awk "$work/code" >"$work/stack"
 sort -n "$work/stack"
-taken=$(sort -n "$work/stack" | tail -n 1 | cut -d ' ' -f 1)
-if [ "$taken" -gt "$stated" ]; then
-    echo "stack: a call can take $taken bytes, and the header states $stated"
+stack_holds include/teakpool.h "$work/stack"
+not_noticed() { # WHAT
+    echo "stack: $1 is not noticed"
     exit 1
-fi
+}
+for change in '/ teakpool_stats$/d' 's/^[0-9]* teakpool_stats$/ teakpool_stats/' 's/^[0-9]* //' 's/^[0-9]* teakpool_train$/1025 teakpool_train/' d; do
+    sed "$change" "$work/stack" >"$work/changed"
+    ! stack_holds include/teakpool.h "$work/changed" >"$work/told" || not_noticed "'$change' in what is measured"
+done
+for change in '/define TEAKPOOL_STACK/d' 's/STACK 1024u/STACK 900u/' 's/STACK 1024u/STACK u/'; do
+    sed "$change" include/teakpool.h >"$work/changed"
+    ! stack_holds "$work/changed" "$work/stack" >"$work/told" || not_noticed "'$change' in the header"
+done
+# What stack.awk does not understand it does not measure: no function, a stack pointer set in another way, calls by a pointer, calls
+# whose function is not told, and a function that calls itself.
+one='0000000000000000 <teakpool_one>:'
+for code in '' "$one\n   0:\tmov    %rax,%rsp" "$one\n   0:\tcall   *%rax" "$one\n   0:\tcall   5 <teakpool_one+0x5>\n   5:\tret" \
+    "$one\n   0:\tjmp    *%rax" "$one\n   0:\tcall   5\n\t\t1: R_X86_64_PLT32\tteakpool_one-0x4"; do
+    ! printf '%b\n' "$code" | awk -f examples/c/stack.awk >"$work/told" 2>&1 || not_noticed "'$code'"
+done
+expected="$((8 + 8 + 32 + 8 + 16 + 128)) teakpool_one"
+measured=$(printf '%b\n' "$one\n   0:\tpush   %rbx\n   1:\tsub    \$0x20,%rsp\n   5:\tcall   9\n\t\t6: R_X86_64_PLT32\ttwo-0x4" \
+    '0000000000000000 <two>:\n   0:\tsub    $0x10,%rsp' | awk -f examples/c/stack.awk)
+[ "$measured" = "$expected" ] || { echo "stack: '$measured' is measured, and not '$expected'" && exit 1; }
+echo "stack: no call takes more than the header states"
 
 # Every exported function is declared in the header, and every declared one exported; the archive wants memset alone.
-nm "$archive" | sed -n 's/^.* T \(teakpool_.*\)$/\1/p' | sort >"$work/exported"
 sed -n 's/^uint32_t \(teakpool_[a-z_]*\)(.*$/\1/p' include/teakpool.h | sort >"$work/declared"
 diff "$work/exported" "$work/declared"
 nm "$archive" | sed -n 's/^ *U \(.*\)$/\1/p' | diff - <(echo memset)
