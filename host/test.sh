@@ -31,6 +31,9 @@ for file in ../vectors/*.bin; do
     cmp "$file" "target/vectors/$(basename "$file")"
 done
 
+# What links the archive finds it, and passes on what is said about it.
+archive/test.sh
+
 # Help, wrong arguments and a missing file are answered without the archive.
 TEAKPOOL_ARCHIVE=none ../run --help > target/help.out
 { cat watch/src/usage.txt; echo; cat watch/src/format.txt; } | diff - target/help.out
