@@ -63,7 +63,13 @@ if ../prebuilt/archive >target/archive.path; then
     echo "the example day: the report is the stored one"
     cargo test --release --offline --quiet -p teakpool -p watch
     cargo test --release --offline --quiet -p teakpool --no-default-features
+    # The README's lines for Rust are this example, which runs with std and without.
     sed -n '/^```rust$/,/^```$/p' ../README.md | sed '/^```/d' | diff - teakpool/examples/readme.rs
+    for feature in --all-features --no-default-features; do
+        told=$(cargo run --release --offline --quiet -p teakpool $feature --example readme)
+        [ "$told" = "State { window: 8, used: 3, accepted: 1 }" ] || { echo "the README's example tells $told"; exit 1; }
+    done
+    echo "the README's lines for Rust: run with std and without"
     cargo run --release --offline --quiet -p through -- $long "$@"
     cargo check --release --offline --quiet -p bench
 else

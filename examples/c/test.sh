@@ -80,9 +80,12 @@ for compiler in "cc -x c -std=c99" "c++ -x c++ -std=c++11"; do
 done
 echo "misplaced: $cases cases do not compile, in C and in C++"
 
-# The README's own lines compile too.
+# The README's own lines compile and run, in C and in C++.
 sed -n '/^```c$/,/^```$/p' README.md | sed '/^```/d' >"$work/readme.c"
-cc -std=c11 $strict -Iinclude -c "$work/readme.c" -o "$work/readme.o"
+for compiler in "cc -x c -std=c99" "cc -x c -std=c11" "c++ -x c++ -std=c++11"; do
+    $compiler $strict -Iinclude "$work/readme.c" examples/c/readme.c -x none "$archive" -o "$work/program"
+    "$work/program"
+done
 
 # Installed, the examples are built by pkg-config alone.
 version=$(sed -n 's/^#define TEAKPOOL_VERSION_STRING "\(.*\)"$/\1/p' include/teakpool.h)
