@@ -272,10 +272,10 @@ uint32_t teakpool_stats(const uint32_t *knots, size_t knots_length, const double
  * version adds then has its right value, and NULL with a length of 0 becomes an address that the plain functions take. A struct only
  * points at what is lent, which has to live as long as the struct is used.
  *
- * NULL with another length, as an allocation that failed gives it, is refused by the calls that need what is missing: 1 for a table, 3
- * for records, 9 for a book, 10 for a path, 16 for sequences. The slice then has a length of 1, which none of these may have. A queue
- * that is missing has a length of 0, so that an opening with any window but 0 gives 9; output and baseline have no places and no room,
- * so that an answer or a training with any gives 13. */
+ * NULL with another length, as an allocation that failed gives it, is refused by the calls that need what is missing: 1 for a table,
+ * 3 for records, 9 for a book, 10 for a path, 16 for sequences. The slice then has a length of 1, which none of these may have. A
+ * queue that is missing has a length of 0, so that an opening with any window but 0 gives 9; output and baseline have no places and
+ * no room, so that an answer or a training with any gives 13. */
 
 /* An address that is not NULL, for a slice that is empty or missing. Nothing is written there. */
 static inline void *teakpool_nowhere(void)

@@ -287,7 +287,8 @@ static void lists(void)
     int named = answer == TEAKPOOL_MISSING_CHILD || answer == TEAKPOOL_PAST_TABLE;
     expect(teakpool_tracker_all_node_kl(&tracker, priors, tables, output, &list) == answer, "teakpool_tracker_all_node_kl");
     HANDED("what teakpool_all_node_kl is handed", TRACKER, PRIORS, TABLES, OUTPUT, place(&list.node.scale), place(&list.node.point));
-    expect(answer == TEAKPOOL_DONE ? list.places == 41 && list.skipped == 42 : list.places == 1 && list.skipped == 2, "a list's counts");
+    expect(answer == TEAKPOOL_DONE ? list.places == 41 && list.skipped == 42 : list.places == 1 && list.skipped == 2,
+           "a list's counts");
     expect(named ? list.node.scale == -43 && list.node.point == 44 : list.node.scale == 3 && list.node.point == 4, "a list's node");
 }
 
@@ -298,13 +299,15 @@ static void statistics(void)
     expect(teakpool_tracker_kl_div_stats(&tracker, priors, tables, &now) == answer, "teakpool_tracker_kl_div_stats");
     HANDED("what teakpool_kl_div_stats is handed", TRACKER, PRIORS, TABLES);
     if (answer == TEAKPOOL_DONE) {
-        expect(now.maximum == 51.0 && now.minimum == 52.0 && now.sum == 53.0 && now.sum_of_squares == 54.0, "the statistics' figures");
+        expect(now.maximum == 51.0 && now.minimum == 52.0 && now.sum == 53.0 && now.sum_of_squares == 54.0,
+               "the statistics' figures");
         expect(now.number == 61 && now.sequence_length == 62 && now.skipped == 63, "the statistics' counts");
     } else {
         expect(now.maximum == 1.0 && now.minimum == 2.0 && now.sum == 3.0 && now.sum_of_squares == 4.0, "figures that are left");
         expect(now.number == 5 && now.sequence_length == 6 && now.skipped == 7, "counts that are left");
     }
-    expect(named ? now.node.scale == -43 && now.node.point == 44 : now.node.scale == 8 && now.node.point == 9, "the statistics' node");
+    expect(named ? now.node.scale == -43 && now.node.point == 44 : now.node.scale == 8 && now.node.point == 9,
+           "the statistics' node");
 }
 
 /* An opening, an add and a reading of one tracker, as far as nothing is refused. */

@@ -1,5 +1,5 @@
-/* Runs the lines of the README's example for C, which test.sh takes from there: a path that the prior knows is added and read, and one
- * that it does not know is told and stays out. */
+/* Runs the lines of the README's example for C, which test.sh takes from there: a path that the prior knows is added and read, and
+ * one that it does not know is told and stays out. */
 #include "teakpool.h"
 #include "bytes.h"
 
