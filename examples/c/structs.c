@@ -271,6 +271,10 @@ static void something_missing(void)
     expect(teakpool_baseline_train(&baseline, priors, tables, sequences, tracker.book) == TEAKPOOL_OUTPUT_SHORT, "missing knots");
     baseline = teakpool_make_baseline(knots, NULL, 1);
     expect(teakpool_baseline_train(&baseline, priors, tables, sequences, tracker.book) == TEAKPOOL_OUTPUT_SHORT, "missing values");
+    expect(teakpool_make_g(NULL, 2).length == 1 && teakpool_make_d(NULL, 2).length == 1, "the length of a missing table");
+    expect(no_book.length == 1 && teakpool_make_path(NULL, 8).length == 1 && none.length == 1, "of a book, a path and sequences");
+    expect(teakpool_make_queue(NULL, sizeof queue_bytes).length == 0, "of a queue");
+    expect(teakpool_make_output(NULL, figures, 2).places == 0 && baseline.room == 0, "no places, and no room");
 }
 
 static void fields(void)
