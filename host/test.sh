@@ -31,6 +31,9 @@ for file in ../vectors/*.bin; do
     cmp "$file" "target/vectors/$(basename "$file")"
 done
 
+# What links the archive finds it, and passes on what is said about it.
+archive/test.sh
+
 # Help, wrong arguments and a missing file are answered without the archive.
 TEAKPOOL_ARCHIVE=none ../run --help > target/help.out
 { cat watch/src/usage.txt; echo; cat watch/src/format.txt; } | diff - target/help.out
@@ -59,8 +62,14 @@ if ../prebuilt/archive >target/archive.path; then
     [ "$(wc -l < target/example.csv)" -eq 181 ]
     echo "the example day: the report is the stored one"
     cargo test --release --offline --quiet -p teakpool -p watch
-    cargo build --release --offline --quiet -p teakpool --no-default-features
+    cargo test --release --offline --quiet -p teakpool --no-default-features
+    # The README's lines for Rust are this example, which runs with std and without.
     sed -n '/^```rust$/,/^```$/p' ../README.md | sed '/^```/d' | diff - teakpool/examples/readme.rs
+    for feature in --all-features --no-default-features; do
+        told=$(cargo run --release --offline --quiet -p teakpool $feature --example readme)
+        [ "$told" = "State { window: 8, used: 3, accepted: 1 }" ] || { echo "the README's example tells $told"; exit 1; }
+    done
+    echo "the README's lines for Rust: run with std and without"
     cargo run --release --offline --quiet -p through -- $long "$@"
     cargo check --release --offline --quiet -p bench
 else

@@ -6,8 +6,9 @@
  *
  * Every call but teakpool_version is declared twice. The plain functions come first; they are what the archive has, and take each
  * slice as a pointer and a length. After them the same calls take structs, one for each group of things lent, and are `static inline`
- * over the plain ones. In these a slice or a group that was made for another place does not compile, and NULL stands for a slice of
- * length 0. What a slice is made of is the caller's word: -Wall -Wextra -Werror has the compiler refuse wrong elements there.
+ * over the plain ones. In these a slice, a group or a training's number that was made for another place does not compile; NULL
+ * stands for a slice of length 0, and with another length leads to a refusal. What a slice is made of is the caller's word: -Wall
+ * -Wextra -Werror has the compiler refuse wrong elements there.
  *
  * What every function but teakpool_version returns
  *   TEAKPOOL_DONE (0)    the call is carried out and its answer is written;
@@ -268,10 +269,15 @@ uint32_t teakpool_stats(const uint32_t *knots, size_t knots_length, const double
 /* ---- The same calls over structs
  *
  * Each struct of things lent has a making function, teakpool_make_ and its name. Make every such struct by it: a field that a later
- * version adds then has its right value, and NULL with a length of 0 becomes an address that the plain functions take. NULL with
- * another length is not allowed. A struct only points at what is lent, which has to live as long as the struct is used. */
+ * version adds then has its right value, and NULL with a length of 0 becomes an address that the plain functions take. A struct only
+ * points at what is lent, which has to live as long as the struct is used.
+ *
+ * NULL with another length, as an allocation that failed gives it, is refused by the calls that need what is missing: 1 for a table,
+ * 3 for records, 9 for a book, 10 for a path, 16 for sequences. The slice then has a length of 1, which none of these may have. A
+ * queue that is missing has a length of 0, so that an opening with any window but 0 gives 9; output and baseline have no places and
+ * no room, so that an answer or a training with any gives 13. */
 
-/* An address that is not NULL, for a slice of length 0. */
+/* An address that is not NULL, for a slice that is empty or missing. Nothing is written there. */
 static inline void *teakpool_nowhere(void)
 {
     static double nowhere;
@@ -279,8 +285,8 @@ static inline void *teakpool_nowhere(void)
 }
 
 /* A slice that is lent: where it begins, and its length in elements. Each has a type of its own, so that one in another's place does
- * not compile. */
-#define TEAKPOOL_SLICE(name, element)                                                     \
+ * not compile. `missing` is the length of one that is not there, though one is spoken of. */
+#define TEAKPOOL_SLICE(name, element, missing)                                            \
     struct teakpool_##name {                                                              \
         element *at;                                                                      \
         size_t length;                                                                    \
@@ -289,17 +295,17 @@ static inline void *teakpool_nowhere(void)
     {                                                                                     \
         struct teakpool_##name slice;                                                     \
         slice.at = at != NULL ? at : (element *)teakpool_nowhere();                       \
-        slice.length = length;                                                            \
+        slice.length = at != NULL || length == 0 ? length : missing;                      \
         return slice;                                                                     \
     }
 
-TEAKPOOL_SLICE(g, const double)         /* ln gamma */
-TEAKPOOL_SLICE(d, const double)         /* digamma */
-TEAKPOOL_SLICE(nodes, const uint8_t)    /* node records */
-TEAKPOOL_SLICE(children, const uint8_t) /* child records */
-TEAKPOOL_SLICE(book, uint8_t)
-TEAKPOOL_SLICE(queue, uint8_t)
-TEAKPOOL_SLICE(path, const uint8_t) /* a path's steps */
+TEAKPOOL_SLICE(g, const double, 1)         /* ln gamma */
+TEAKPOOL_SLICE(d, const double, 1)         /* digamma */
+TEAKPOOL_SLICE(nodes, const uint8_t, 1)    /* node records */
+TEAKPOOL_SLICE(children, const uint8_t, 1) /* child records */
+TEAKPOOL_SLICE(book, uint8_t, 1)
+TEAKPOOL_SLICE(queue, uint8_t, 0)
+TEAKPOOL_SLICE(path, const uint8_t, 1) /* a path's steps */
 #undef TEAKPOOL_SLICE
 
 /* The tables of ln gamma and digamma. */
@@ -362,7 +368,7 @@ static inline struct teakpool_output teakpool_make_output(uint8_t *addresses, do
     struct teakpool_output output;
     output.addresses = addresses != NULL ? addresses : (uint8_t *)teakpool_nowhere();
     output.figures = figures != NULL ? figures : (double *)teakpool_nowhere();
-    output.places = places;
+    output.places = addresses != NULL && figures != NULL ? places : 0;
     return output;
 }
 
@@ -380,19 +386,39 @@ static inline struct teakpool_address teakpool_make_address(int32_t scale, uint3
     return address;
 }
 
+/* The numbers of a training: how many sequences, how many paths each has, and every how many paths there is a knot. Each has a type
+ * of its own: s and n in each other's place fit the same bytes, and no call could tell. */
+#define TEAKPOOL_NUMBER(name)                                                  \
+    struct teakpool_##name {                                                   \
+        uint32_t number;                                                       \
+    };                                                                         \
+    static inline struct teakpool_##name teakpool_make_##name(uint32_t number) \
+    {                                                                          \
+        struct teakpool_##name made;                                           \
+        made.number = number;                                                  \
+        return made;                                                           \
+    }
+
+TEAKPOOL_NUMBER(s)
+TEAKPOOL_NUMBER(n)
+TEAKPOOL_NUMBER(rate)
+#undef TEAKPOOL_NUMBER
+
 /* A training's sequences: s sequences of n paths, 516 bytes a path, and a knot at every rate-th path. */
 struct teakpool_sequences {
     const uint8_t *at;
     size_t length;
-    uint32_t s, n, rate;
+    struct teakpool_s s;
+    struct teakpool_n n;
+    struct teakpool_rate rate;
 };
 
-static inline struct teakpool_sequences teakpool_make_sequences(const uint8_t *at, size_t length, uint32_t s, uint32_t n,
-                                                                uint32_t rate)
+static inline struct teakpool_sequences teakpool_make_sequences(const uint8_t *at, size_t length, struct teakpool_s s,
+                                                                struct teakpool_n n, struct teakpool_rate rate)
 {
     struct teakpool_sequences sequences;
     sequences.at = at != NULL ? at : (const uint8_t *)teakpool_nowhere();
-    sequences.length = length;
+    sequences.length = at != NULL || length == 0 ? length : 1;
     sequences.s = s;
     sequences.n = n;
     sequences.rate = rate;
@@ -414,7 +440,7 @@ static inline struct teakpool_baseline teakpool_make_baseline(uint32_t *knots, d
     struct teakpool_baseline baseline;
     baseline.knots = knots != NULL ? knots : (uint32_t *)teakpool_nowhere();
     baseline.values = values != NULL ? values : (double *)teakpool_nowhere();
-    baseline.room = room;
+    baseline.room = knots != NULL && values != NULL ? room : 0;
     baseline.s = 0;
     baseline.count = 0;
     baseline.node = teakpool_make_address(0, 0);
@@ -581,12 +607,12 @@ static inline uint32_t teakpool_baseline_train(struct teakpool_baseline *baselin
                                                struct teakpool_book book)
 {
     uint32_t code = teakpool_train(tables.g.at, tables.g.length, tables.d.at, tables.d.length, priors.nodes.at, priors.nodes.length,
-                                   priors.children.at, priors.children.length, sequences.at, sequences.length, sequences.s,
-                                   sequences.n, sequences.rate, book.at, book.length, baseline->knots, baseline->room,
-                                   baseline->values, TEAKPOOL_KNOT_VALUES * baseline->room, &baseline->count, &baseline->node.scale,
-                                   &baseline->node.point);
+                                   priors.children.at, priors.children.length, sequences.at, sequences.length,
+                                   sequences.s.number, sequences.n.number, sequences.rate.number, book.at, book.length,
+                                   baseline->knots, baseline->room, baseline->values, TEAKPOOL_KNOT_VALUES * baseline->room,
+                                   &baseline->count, &baseline->node.scale, &baseline->node.point);
     if (code == TEAKPOOL_DONE) {
-        baseline->s = sequences.s;
+        baseline->s = sequences.s.number;
     } else if (code == TEAKPOOL_PATH_LENGTH || code == TEAKPOOL_BOOK_FULL || code == TEAKPOOL_MISSING_CHILD ||
                code == TEAKPOOL_PAST_TABLE) {
         baseline->s = 0;

@@ -2,8 +2,13 @@
  * of this.
  *
  * Nothing but additions, subtractions, multiplications and divisions of doubles is used, each rounded once, and a rounding to float;
- * no function of the C library. Every compiler that keeps to IEEE 754 gives the same bits, with fused multiply-adds or without; do not compile this with
- * -ffast-math. Up to index 1,048,575 no value is further than 2 units in the last place from the true one (at most 0.51 measured).
+ * no function of the C library. Every compiler that keeps to IEEE 754 gives the same bits, with fused multiply-adds or without. Up to
+ * index 1,048,575 no value is further than 2 units in the last place from the true one (at most 0.51 measured).
+ *
+ * Do not compile this with -ffast-math, nor with a part of it. Where the compiler tells of such a flag, what follows stops it: gcc
+ * tells of all that matter (12 was tried), clang of -ffast-math and -ffinite-math-only. Of the others clang tells nothing; from
+ * version 12 on it is told by a pragma to leave the sums here as they are written (14 was tried). Older versions and other compilers
+ * may take such a flag unnoticed, and values are then wrong in their last digits: see to their flags yourself.
  *
  * Going from k to k + 1, ln gamma grows by ln k, digamma by 1 / k, and ln k by 2 (z + z^3 / 3 + z^5 / 5 + ..) with z = 1 / (2k + 1).
  * The sums are kept in two doubles each, so that a million additions lose nothing that shows. */
@@ -12,8 +17,20 @@
 
 #include "teakpool.h"
 
-#ifdef __FAST_MATH__
-#error "teakpool_tables.h: -ffast-math takes away the bits that the sums here keep"
+#if defined(__FAST_MATH__) || defined(__ASSOCIATIVE_MATH__) || defined(__RECIPROCAL_MATH__) || defined(__NO_SIGNED_ZEROS__) || \
+    (defined(__FINITE_MATH_ONLY__) && __FINITE_MATH_ONLY__ > 0)
+#error "teakpool_tables.h: -ffast-math, or a part of it, takes away the bits that the sums here keep"
+#endif
+#if defined(__FLT_EVAL_METHOD__) && (__FLT_EVAL_METHOD__ == 2 || __FLT_EVAL_METHOD__ < 0)
+#error "teakpool_tables.h: doubles are worked out in another precision, and the sums here want each step rounded to double"
+#endif
+
+/* Stops gcc's -fsingle-precision-constant. */
+typedef char teakpool_constants_are_doubles[sizeof(1.0) == sizeof(double) ? 1 : -1];
+
+#if defined(__clang__) && __clang_major__ >= 12
+#pragma float_control(push)
+#pragma float_control(precise, on)
 #endif
 
 #ifdef __cplusplus
@@ -65,12 +82,16 @@ static inline struct teakpool_pair teakpool_pair_next_ln(struct teakpool_pair ln
 }
 
 /* Fills g and d, `length` elements each, and returns them as tables to lend. Index k holds the value at k; index 0, which no call
- * reads, becomes 0. teakpool.h says under 15 what length is needed; every call wants one of 2 to TEAKPOOL_MAX_TABLE. */
+ * reads, becomes 0. teakpool.h says under 15 what length is needed; every call wants one of 2 to TEAKPOOL_MAX_TABLE. Where g or d is
+ * NULL nothing is filled, and every call refuses the tables by 1. */
 static inline struct teakpool_tables teakpool_gamma_tables(double *g, double *d, size_t length)
 {
     /* at k = 1: ln 1, ln gamma and digamma, which is minus Euler's constant */
     struct teakpool_pair ln = {0.0, 0.0}, ln_gamma = {0.0, 0.0}, digamma = {-0.57721566490153287, 4.9429151524306451e-18};
     size_t k;
+    if (g == NULL || d == NULL) {
+        return teakpool_make_tables(teakpool_make_g(NULL, length), teakpool_make_d(NULL, length));
+    }
     if (length > 0) {
         g[0] = 0.0;
         d[0] = 0.0;
@@ -88,6 +109,10 @@ static inline struct teakpool_tables teakpool_gamma_tables(double *g, double *d,
 
 #ifdef __cplusplus
 }
+#endif
+
+#if defined(__clang__) && __clang_major__ >= 12
+#pragma float_control(pop)
 #endif
 
 #endif

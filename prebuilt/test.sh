@@ -1,5 +1,6 @@
 #!/usr/bin/env bash
-# Tests which archive the scripts here choose, in a copy of the repository's sources, with and without an rt that only writes a file.
+# Tests which archive the scripts here choose, and that each of their comparisons notices what it is there for, in a copy of the
+# repository's sources, with and without an rt that only writes a file.
 set -euo pipefail
 root=$(cd "$(dirname "$0")/.." && pwd)
 work=$(mktemp -d)
@@ -7,7 +8,7 @@ trap 'rm -rf "$work"' EXIT
 
 # A path with what the scripts need and no rt, and one with an rt that writes 'built' for an archive.
 mkdir "$work/tools" "$work/with-rt" "$work/copy"
-for tool in bash awk cat cmp cp cut dirname find mkdir realpath rm sed sha256sum sort tail tee uname wc xargs; do
+for tool in bash awk cat cmp cp cut dirname find mkdir realpath rm sed seq sha256sum sort tail tee uname wc xargs; do
     ln -s "$(command -v "$tool")" "$work/tools/$tool"
 done
 cat >"$work/with-rt/rt" <<'END'
@@ -19,6 +20,9 @@ fi
 echo "rt $*" >>"$CALLS"
 if [ -e "$CALLS.fails" ]; then
     echo "rt: priors NOT PROVED"
+    for line in $(seq 40); do
+        echo "    why not, line $line"
+    done
     exit 1
 fi
 mkdir -p target/staticlib
@@ -64,6 +68,83 @@ with_rt prebuilt/check >"$work/checked" || expect "a check of what was just put 
 expect "a check proves" "rt staticlib exports" "$(calls)"
 rm -rf target
 
+# Each comparison of a check decides alone: what is spoiled here, all the others pass.
+spoiled() { # WHAT SENTENCE COMMAND
+    cp -r prebuilt "$work/whole"
+    (cd prebuilt/x86_64-linux && eval "$3")
+    if with_rt prebuilt/check >"$work/checked"; then
+        expect "$1" "a failure" "a pass"
+    fi
+    expect "$1: what is said" "1" "$(grep -c "$2" "$work/said")"
+    rm -rf prebuilt target "$CALLS"
+    mv "$work/whole" prebuilt
+}
+other='is not what was just proved and built'
+hash='the sha256 recorded beside .* is not its own'
+sources='the hash of the sources recorded beside'
+spoiled "a changed byte, with its hash" "$other" 'echo Built >libteakpool.a && sha256sum libteakpool.a >libteakpool.a.sha256'
+spoiled "a byte more, with its hash" "$other" 'echo >>libteakpool.a && sha256sum libteakpool.a >libteakpool.a.sha256'
+spoiled "another hash" "$hash" 'tr 0-9a-f 1-9a-f0 <libteakpool.a.sha256 >other && mv other libteakpool.a.sha256'
+spoiled "no line with a hash" "$hash" ': >libteakpool.a.sha256'
+spoiled "no file with a hash" "$hash" 'rm libteakpool.a.sha256'
+spoiled "the hash of another file" "$hash" 'sha256sum sources >libteakpool.a.sha256'
+spoiled "a hash more" "$hash" 'sha256sum sources >>libteakpool.a.sha256'
+spoiled "another hash of the sources" "$sources" 'sed -i "s/^sources ./sources x/" sources'
+spoiled "no hash of the sources" "$sources" 'sed -i "/^sources/d" sources'
+spoiled "two hashes of the sources" "$sources" 'sed -i "s/^sources .*/&\n&/" sources'
+with_rt prebuilt/check >"$work/checked" || expect "a check when all is as it was" "a pass" "$(cat "$work/said")"
+calls >"$work/told"
+rm -rf target
+
+# The hash of the sources takes in every source of every crate that the archive is made of, by name and contents.
+hash_now() {
+    without_rt bash -c 'set -euo pipefail; . prebuilt/common.sh; now=$(sources_hash) || exit 1; echo "$now"' || echo failed
+}
+recorded=$(sed -n 's/^sources //p' prebuilt/x86_64-linux/sources)
+expect "the hash of the sources" "$recorded" "$(hash_now)"
+hash_changes() { # WHAT
+    if [ "$(hash_now)" = "$recorded" ]; then
+        expect "$1" "another hash" "the same"
+    fi
+}
+made_of=$(bash -c '. prebuilt/common.sh; archive_crates' | cut -d : -f 1 | sort | paste -s -d ' ')
+expect "what the archive is made of" "baseline book divergence exports priors" "$made_of"
+for crate in $made_of; do
+    for folder in src specs; do
+        first=$(find "crates/$crate/$folder" -name '*.rt' -o -name '*.antt' | sort | head -n 1)
+        cp "$first" "$work/kept"
+        echo >>"$first"
+        hash_changes "a line more in $first"
+        rm "$first"
+        cp "$work/kept" "${first%.*}_other.${first##*.}"
+        hash_changes "another name for $first"
+        rm "${first%.*}_other.${first##*.}"
+        hash_changes "$first is gone"
+        mv "$work/kept" "$first"
+    done
+    sed -i.whole "s/^$crate:.*/& priors/" crates.txt
+    hash_changes "another line for $crate"
+    mv crates.txt.whole crates.txt
+
+    # A crate without its line, or without a folder, is not passed over.
+    sed -i.whole "/^$crate:/d" crates.txt
+    expect "no line for $crate: no hash" "failed" "$(hash_now)"
+    expect "no line for $crate: what is said" "1" "$(grep -c "crates.txt has no line for $crate," "$work/said")"
+    for script in build check update; do
+        if with_rt "prebuilt/$script" >"$work/told"; then
+            expect "no line for $crate: prebuilt/$script" "a failure" "a pass"
+        fi
+    done
+    expect "no line for $crate: nothing is proved" "" "$(calls)"
+    expect "no line for $crate, without rt" "$prebuilt" "$(without_rt prebuilt/archive)"
+    expect "no line for $crate, without rt: a line says so" "1" "$(grep -c 'the sources have changed' "$work/said")"
+    mv crates.txt.whole crates.txt
+    mv "crates/$crate/specs" "$work/specs"
+    expect "no definitions of $crate: no hash" "failed" "$(hash_now)"
+    mv "$work/specs" "crates/$crate/specs"
+done
+expect "the hash when all is as it was" "$recorded" "$(hash_now)"
+
 expect "without rt" "$prebuilt" "$(without_rt prebuilt/archive)"
 expect "with rt" "$prebuilt" "$(with_rt prebuilt/archive)"
 find crates prebuilt -exec touch {} +
@@ -101,6 +182,7 @@ if with_rt prebuilt/archive >"$work/path"; then
     expect "a proof that fails" "a failure" "a pass"
 fi
 expect "a proof that fails: what rt said" "1" "$(grep -c 'priors NOT PROVED' "$work/said")"
+expect "a proof that fails: all that rt said" "40" "$(grep -c 'why not, line' "$work/said")"
 rm -f "$CALLS" "$CALLS.fails"
 sed -i '$d' crates/exports/src/lib.rt
 
@@ -111,10 +193,17 @@ fi
 if with_rt prebuilt/check >"$work/checked"; then
     expect "a check of an archive that is not the built one" "a failure" "a pass"
 fi
+rm "$prebuilt"
+: >"$prebuilt.sha256"
+if without_rt prebuilt/archive >"$work/path"; then
+    expect "no archive, and no hash" "a failure" "a pass"
+fi
 expect "TEAKPOOL_ARCHIVE comes first" "$(realpath crates.txt)" "$(TEAKPOOL_ARCHIVE=crates.txt prebuilt/archive)"
 if TEAKPOOL_ARCHIVE=none prebuilt/archive 2>"$work/said"; then
     expect "TEAKPOOL_ARCHIVE names no file" "a failure" "a pass"
 fi
 
+(cd "$root" && . prebuilt/common.sh && prebuilt_is_whole) || expect "the archive in the repository" "the recorded one" "another"
+
 [ "$failures" -eq 0 ]
-echo "prebuilt: the right archive is chosen"
+echo "prebuilt: the right archive is chosen, and each comparison notices what it is there for"

@@ -97,7 +97,8 @@ static void hold_against_baseline(const struct teakpool_tracker *tracker, struct
     uint32_t knots[1];
     double values[TEAKPOOL_KNOT_VALUES];
     struct teakpool_baseline baseline = teakpool_make_baseline(knots, values, 1);
-    struct teakpool_sequences sequences = teakpool_make_sequences(places, sizeof places, 2, 1, 1);
+    struct teakpool_sequences sequences =
+        teakpool_make_sequences(places, sizeof places, teakpool_make_s(2), teakpool_make_n(1), teakpool_make_rate(1));
     struct teakpool_path path = path_to(step, 9);
     struct teakpool_statistics now;
     struct teakpool_usual usual;

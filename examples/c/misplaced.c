@@ -3,16 +3,18 @@
 #include "teakpool.h"
 
 uint32_t misplaced(struct teakpool_tracker *tracker, struct teakpool_priors priors, struct teakpool_tables tables,
-                   struct teakpool_output output, struct teakpool_list *list);
+                   struct teakpool_output output, struct teakpool_list *list, struct teakpool_sequences *sequences);
 
 uint32_t misplaced(struct teakpool_tracker *tracker, struct teakpool_priors priors, struct teakpool_tables tables,
-                   struct teakpool_output output, struct teakpool_list *list)
+                   struct teakpool_output output, struct teakpool_list *list, struct teakpool_sequences *sequences)
 {
+    (void)sequences;
 #if CASE == 0
     tables = teakpool_make_tables(tables.g, tables.d);
     priors = teakpool_make_priors(priors.nodes, priors.children);
     *tracker = teakpool_make_tracker(tracker->book, tracker->queue);
     output = teakpool_make_output(output.addresses, output.figures, output.places);
+    *sequences = teakpool_make_sequences(sequences->at, sequences->length, sequences->s, sequences->n, sequences->rate);
 #elif CASE == 1  /* the two tables */
     tables = teakpool_make_tables(tables.d, tables.g);
 #elif CASE == 2  /* node records and child records */
@@ -35,6 +37,12 @@ uint32_t misplaced(struct teakpool_tracker *tracker, struct teakpool_priors prio
     return teakpool_open(0, tracker->book.at, tracker->book.length, NULL, 0, tracker->state);
 #elif CASE == 11 /* NULL where an answer goes */
     return teakpool_tracker_all_node_kl(tracker, priors, tables, output, NULL);
+#elif CASE == 12 /* a training's sequences and the paths of each */
+    *sequences = teakpool_make_sequences(sequences->at, sequences->length, sequences->n, sequences->s, sequences->rate);
+#elif CASE == 13 /* the paths of each sequence and the rate */
+    *sequences = teakpool_make_sequences(sequences->at, sequences->length, sequences->s, sequences->rate, sequences->n);
+#elif CASE == 14 /* numbers that do not say what they are */
+    *sequences = teakpool_make_sequences(sequences->at, sequences->length, 2, 1, 1);
 #else
 #error "there is no such case"
 #endif

@@ -105,6 +105,11 @@ END {
     for (name in own) {
         if (name ~ /^teakpool_/) {
             print deepest(name, ""), name
+            measured++
         }
+    }
+    if (!measured) {
+        print "stack: there is no function to measure" > "/dev/stderr"
+        exit 1
     }
 }

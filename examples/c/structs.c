@@ -1,5 +1,6 @@
-/* The calls over structs: each answers what its plain function answers, NULL stands for a slice of length 0, and a tracker or a
- * baseline is refused until it is opened or trained. Tables with G(k) = k * k and D(k) = 4k make every divergence a whole number. */
+/* The calls over structs: each answers what its plain function answers, NULL stands for a slice of length 0 and is refused with
+ * another, and a tracker or a baseline is refused until it is opened or trained. Tables with G(k) = k * k and D(k) = 4k make every
+ * divergence a whole number. */
 #include "teakpool.h"
 #include "bytes.h"
 
@@ -51,7 +52,8 @@ static void lend(size_t last)
     memcpy(sequence_bytes + TEAKPOOL_PLACE_SIZE + 4, path_bytes, TEAKPOOL_STEP_SIZE);
     tables = teakpool_make_tables(teakpool_make_g(g, last + 1), teakpool_make_d(d, last + 1));
     priors = teakpool_make_priors(teakpool_make_nodes(nodes, sizeof nodes), teakpool_make_children(children, sizeof children));
-    sequences = teakpool_make_sequences(sequence_bytes, sizeof sequence_bytes, 2, 1, 1);
+    sequences = teakpool_make_sequences(sequence_bytes, sizeof sequence_bytes, teakpool_make_s(2), teakpool_make_n(1),
+                                        teakpool_make_rate(1));
 }
 
 /* Three paths: that by (0,point), and twice (-1,3) alone, which has no prior. */
@@ -186,7 +188,7 @@ static void baselines(void)
     expect(usual.sum.mean == 9.0 && usual.sum.variance == 1.0, "sums 8 and 10");
     expect(usual.sum_of_squares.mean == 70.0 && usual.sum_of_squares.variance == 900.0, "sums of squares 40 and 100");
     expect(teakpool_baseline_stats(&baseline, 2, &usual) == TEAKPOOL_ONE_KNOT && usual.maximum.mean == 8.0, "past the only knot");
-    sequences.rate = 0;
+    sequences.rate.number = 0;
     expect(teakpool_baseline_train(&baseline, priors, tables, sequences, work_book) == TEAKPOOL_TRAINING_INPUT, "a rate of 0");
     expect(baseline.s == 2 && baseline.count == 1, "a training that is refused before its work leaves the baseline");
     lend(6);
@@ -216,11 +218,63 @@ static void nothing_lent(void)
     expect(teakpool_tracker_add_path(&tracker, path_by(9)) == TEAKPOOL_DONE, "an add without a queue");
     expect(teakpool_tracker_all_node_kl(&tracker, no_priors, tables, no_output, &list) == TEAKPOOL_DONE, "no output");
     expect(list.places == 0 && list.skipped == 3, "every node is skipped");
-    sequences = teakpool_make_sequences(NULL, 0, 1, 0, 1);
+    sequences = teakpool_make_sequences(NULL, 0, teakpool_make_s(1), teakpool_make_n(0), teakpool_make_rate(1));
     expect(teakpool_baseline_train(&baseline, no_priors, tables, sequences, tracker.book) == TEAKPOOL_DONE,
            "a training on no paths");
     expect(teakpool_baseline_stats(&baseline, 7, &usual) == TEAKPOOL_DONE && usual.sum.mean == 0.0, "a baseline without knots");
     lend(LENGTH - 1);
+}
+
+/* NULL with a length, as an allocation that failed leaves it: every call that needs what is missing refuses it. */
+static void something_missing(void)
+{
+    uint8_t addresses[2 * TEAKPOOL_STEP_SIZE];
+    uint32_t knots[1];
+    double figures[2], values[TEAKPOOL_KNOT_VALUES];
+    struct teakpool_vector vector;
+    struct teakpool_book no_book = teakpool_make_book(NULL, sizeof book_bytes);
+    struct teakpool_queue queue = teakpool_make_queue(queue_bytes, sizeof queue_bytes);
+    struct teakpool_baseline baseline = teakpool_make_baseline(knots, values, 1);
+    expect(teakpool_tables_check(teakpool_make_tables(teakpool_make_g(NULL, LENGTH), teakpool_make_d(NULL, LENGTH))) ==
+               TEAKPOOL_TABLE_LENGTHS,
+           "missing tables");
+    expect(teakpool_tables_check(teakpool_make_tables(teakpool_make_g(NULL, LENGTH), tables.d)) == TEAKPOOL_TABLE_LENGTHS,
+           "a missing table of ln gamma");
+    expect(teakpool_tables_check(teakpool_make_tables(tables.g, teakpool_make_d(NULL, LENGTH))) == TEAKPOOL_TABLE_LENGTHS,
+           "a missing table of digamma");
+    expect(teakpool_priors_check(teakpool_make_priors(teakpool_make_nodes(NULL, sizeof nodes), priors.children)) ==
+               TEAKPOOL_PRIOR_SIZES,
+           "missing node records");
+    expect(teakpool_priors_check(teakpool_make_priors(priors.nodes, teakpool_make_children(NULL, sizeof children))) ==
+               TEAKPOOL_PRIOR_SIZES,
+           "missing child records");
+    tracker = teakpool_make_tracker(no_book, queue);
+    expect(teakpool_tracker_open(&tracker, 1) == TEAKPOOL_FORM, "a missing book");
+    expect(teakpool_baseline_train(&baseline, priors, tables, sequences, no_book) == TEAKPOOL_FORM, "no book to train in");
+    tracker = teakpool_make_tracker(teakpool_make_book(book_bytes, sizeof book_bytes),
+                                    teakpool_make_queue(NULL, sizeof queue_bytes));
+    expect(teakpool_tracker_open(&tracker, 1) == TEAKPOOL_FORM, "a missing queue");
+    expect(teakpool_tracker_open(&tracker, 0) == TEAKPOOL_DONE, "a missing queue that is not needed");
+    expect(teakpool_tracker_add_path(&tracker, teakpool_make_path(NULL, sizeof path_bytes)) == TEAKPOOL_PATH_LENGTH,
+           "a missing path");
+    open_and_add(9);
+    expect(teakpool_tracker_prob_vector(&tracker, priors, node, teakpool_make_output(NULL, figures, 2), &vector) ==
+               TEAKPOOL_OUTPUT_SHORT,
+           "missing addresses");
+    expect(teakpool_tracker_prob_vector(&tracker, priors, node, teakpool_make_output(addresses, NULL, 2), &vector) ==
+               TEAKPOOL_OUTPUT_SHORT,
+           "missing figures");
+    struct teakpool_sequences none =
+        teakpool_make_sequences(NULL, sizeof sequence_bytes, sequences.s, sequences.n, sequences.rate);
+    expect(teakpool_baseline_train(&baseline, priors, tables, none, tracker.book) == TEAKPOOL_TRAINING_INPUT, "missing sequences");
+    baseline = teakpool_make_baseline(NULL, values, 1);
+    expect(teakpool_baseline_train(&baseline, priors, tables, sequences, tracker.book) == TEAKPOOL_OUTPUT_SHORT, "missing knots");
+    baseline = teakpool_make_baseline(knots, NULL, 1);
+    expect(teakpool_baseline_train(&baseline, priors, tables, sequences, tracker.book) == TEAKPOOL_OUTPUT_SHORT, "missing values");
+    expect(teakpool_make_g(NULL, 2).length == 1 && teakpool_make_d(NULL, 2).length == 1, "the length of a missing table");
+    expect(no_book.length == 1 && teakpool_make_path(NULL, 8).length == 1 && none.length == 1, "of a book, a path and sequences");
+    expect(teakpool_make_queue(NULL, sizeof queue_bytes).length == 0, "of a queue");
+    expect(teakpool_make_output(NULL, figures, 2).places == 0 && baseline.room == 0, "no places, and no room");
 }
 
 static void fields(void)
@@ -248,6 +302,7 @@ int main(void)
     trials();
     baselines();
     nothing_lent();
+    something_missing();
     if (failures == 0) {
         printf("structs: every call answers as its plain function\n");
     }

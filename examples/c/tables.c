@@ -68,6 +68,9 @@ int main(int count, char **words)
     expect(two[0] == 0.0 && past[0] == 0.0 && two[1] == 7.0 && past[1] == 7.0, "nothing is written past the length");
     expect(teakpool_tables_check(tables) == TEAKPOOL_TABLE_LENGTHS, "tables of one entry");
     expect(teakpool_tables_check(teakpool_gamma_tables(NULL, NULL, 0)) == TEAKPOOL_TABLE_LENGTHS, "tables of none");
+    expect(teakpool_tables_check(teakpool_gamma_tables(NULL, two, 2)) == TEAKPOOL_TABLE_LENGTHS, "no table of ln gamma");
+    expect(teakpool_tables_check(teakpool_gamma_tables(two, NULL, 2)) == TEAKPOOL_TABLE_LENGTHS, "no table of digamma");
+    expect(two[0] == 0.0 && two[1] == 7.0, "nothing is written where one of the two is missing");
     if (failures == 0) {
         printf("tables: ln gamma and digamma are the recorded ones\n");
     }

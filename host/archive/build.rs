@@ -1,7 +1,9 @@
 //! Finds the proved archive: the file that TEAKPOOL_ARCHIVE names, else what `prebuilt/archive` in
 //! the repository's root chooses: the prebuilt one, or where the sources have changed since it was
-//! built the one that `rt` proves and builds from them.
+//! built the one that `rt` proves and builds from them. All that is said on the way is passed on.
 
+use std::ffi::OsStr;
+use std::os::unix::ffi::OsStrExt;
 use std::path::{Path, PathBuf};
 use std::process::Command;
 use std::{env, fs};
@@ -15,9 +17,9 @@ fn main() {
     let named = env::var_os(VARIABLE).filter(|name| !name.is_empty());
     let archive = named.map_or_else(|| chosen(&root), PathBuf::from);
     println!("cargo:rerun-if-changed={}", archive.display());
-    let Ok(archive) = fs::canonicalize(&archive) else {
-        give_up(&format!("there is no archive at {}", archive.display()));
-    };
+    let archive = fs::canonicalize(&archive).unwrap_or_else(|error| {
+        give_up(&format!("there is no archive at {} ({})", archive.display(), error));
+    });
     let name = archive.file_name().and_then(|name| name.to_str()).unwrap_or_default();
     let Some(name) = name.strip_prefix("lib").and_then(|name| name.strip_suffix(".a")) else {
         give_up(&format!("{} is not named libNAME.a", archive.display()));
@@ -28,23 +30,24 @@ fn main() {
 }
 
 /// The archive that `prebuilt/archive` chooses; it is asked again when anything that it looks at has
-/// changed.
+/// changed, also where `rt` is looked for.
 fn chosen(root: &Path) -> PathBuf {
+    println!("cargo:rerun-if-env-changed=PATH");
     for looked_at in ["prebuilt", "crates.txt", "crates"] {
         println!("cargo:rerun-if-changed={}", root.join(looked_at).display());
     }
-    let Ok(output) = Command::new(root.join("prebuilt/archive")).output() else {
-        give_up("prebuilt/archive, which finds the archive, cannot be run");
-    };
-    let said = String::from_utf8_lossy(&output.stderr).into_owned();
+    let output = Command::new(root.join("prebuilt/archive")).output().unwrap_or_else(|error| {
+        give_up(&format!("prebuilt/archive, which finds the archive, cannot be run ({})", error));
+    });
+    let said = String::from_utf8_lossy(&output.stderr);
     if !output.status.success() {
-        eprint!("{}", said);
-        give_up("no archive was found");
+        eprint!("{}{}", String::from_utf8_lossy(&output.stdout), said);
+        give_up(&format!("no archive was found: prebuilt/archive ended with {}", output.status));
     }
-    for line in said.lines().filter(|line| line.contains("have changed")) {
+    for line in said.lines() {
         println!("cargo:warning={}", line);
     }
-    PathBuf::from(String::from_utf8_lossy(&output.stdout).trim_end())
+    PathBuf::from(OsStr::from_bytes(output.stdout.trim_ascii_end()))
 }
 
 fn give_up(why: &str) -> ! {

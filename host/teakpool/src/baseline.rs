@@ -49,7 +49,8 @@ pub struct BaselineStats {
 ///
 /// Two sequences of one path each:
 ///
-/// ```
+#[cfg_attr(feature = "std", doc = "```")]
+#[cfg_attr(not(feature = "std"), doc = "```ignore")]
 /// use teakpool::*;
 ///
 /// # fn main() -> Result<(), Refusal> {
@@ -136,7 +137,8 @@ impl<'a> Baseline<'a> {
 }
 
 /// A path as a queue place: its length, its steps, zeros. A path of more than 64 steps has no
-/// place; its length is written and the call that reads it gives 10.
+/// place; its length is written, or the greatest there is where 32 bits do not hold it, and the call
+/// that reads it gives 10.
 ///
 /// ```
 /// use teakpool::{place_bytes, Address};
@@ -147,9 +149,29 @@ impl<'a> Baseline<'a> {
 pub fn place_bytes(path: &[Address]) -> [u8; PLACE_BYTES] {
     let mut place = [0; PLACE_BYTES];
     let (length, steps) = place.split_at_mut(4);
-    length.copy_from_slice(&(path.len() as u32).to_le_bytes());
+    length.copy_from_slice(&length_field(path.len()).to_le_bytes());
     for (place, step) in steps.chunks_exact_mut(Address::BYTES).zip(path) {
         place.copy_from_slice(&step.bytes());
     }
     place
+}
+
+/// A length as 32 bits hold it. One that they do not hold stays too long, and is refused as such.
+fn length_field(steps: usize) -> u32 {
+    u32::try_from(steps).unwrap_or(u32::MAX)
+}
+
+#[cfg(test)]
+mod tests {
+    use super::length_field;
+    use crate::MAX_STEPS;
+
+    #[test]
+    fn lengths_past_32_bits_stay_too_long() {
+        assert_eq!([0, 1, 64, 65].map(length_field), [0, 1, 64, 65]);
+        let whole = u32::MAX as usize;
+        for steps in [whole, whole.saturating_add(1), whole.saturating_add(2), whole.saturating_add(65)] {
+            assert!(length_field(steps) as usize > MAX_STEPS, "{}", steps);
+        }
+    }
 }

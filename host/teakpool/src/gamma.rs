@@ -8,6 +8,10 @@
 /// Minus Euler's constant: digamma at 1.
 const DIGAMMA_1: Pair = Pair { high: -0.577_215_664_901_532_9, low: 4.942_915_152_430_645e-18 };
 
+/// Entries of the longest tables that a call takes.
+#[cfg(feature = "std")]
+const MAX_TABLE: usize = 1_048_576;
+
 /// A number in two parts, the second below the last bit of the first.
 #[derive(Clone, Copy)]
 struct Pair {
@@ -97,25 +101,33 @@ impl GammaTables {
 
 /// Tables of ln gamma and digamma at 1 to `n`, so of n + 1 entries, as [`fill_gamma_tables`] fills
 /// them. A call takes tables with an `n` of 1 to 1,048,575; [`Refusal::PastTable`] says which it needs.
+/// A greater `n` gives tables of one entry too many, and a call refuses them by
+/// [`Refusal::TableLengths`].
 ///
 /// ```
-/// let tables = teakpool::gamma_tables(40);
+/// use teakpool::{gamma_tables, Refusal};
+///
+/// let tables = gamma_tables(40);
 /// assert_eq!((tables.g.len(), tables.d.len()), (41, 41));
 /// assert_eq!(tables.lent().check(), Ok(()));
 /// assert!((tables.d[1] + 0.577_215_664_901_532_9).abs() < 1.0e-15);
+/// assert_eq!(gamma_tables(1_048_576).lent().check(), Err(Refusal::TableLengths));
 /// ```
 ///
 /// [`Refusal::PastTable`]: crate::Refusal::PastTable
+/// [`Refusal::TableLengths`]: crate::Refusal::TableLengths
 #[cfg(feature = "std")]
 pub fn gamma_tables(n: usize) -> GammaTables {
-    let mut tables = GammaTables { g: std::vec![0.0; n + 1], d: std::vec![0.0; n + 1] };
+    let length = n.min(MAX_TABLE) + 1;
+    let mut tables = GammaTables { g: std::vec![0.0; length], d: std::vec![0.0; length] };
     fill_gamma_tables(&mut tables.g, &mut tables.d);
     tables
 }
 
 #[cfg(all(test, feature = "std"))]
 mod tests {
-    use super::{fill_gamma_tables, gamma_tables};
+    use super::{fill_gamma_tables, gamma_tables, MAX_TABLE};
+    use crate::Refusal;
 
     /// Values worked out to 36 digits, and a hash of all bits; the C header is held against it too.
     const RECORDED: &str = include_str!("../tests/gamma.txt");
@@ -160,5 +172,15 @@ mod tests {
         assert_eq!((g, d[0]), ([0.0, 0.0, 7.0], 0.0));
         fill_gamma_tables(&mut [], &mut []);
         assert_eq!(gamma_tables(0).g, [0.0]);
+    }
+
+    #[test]
+    fn tables_that_are_too_long() {
+        assert_eq!(gamma_tables(MAX_TABLE - 1).lent().check(), Ok(()));
+        for n in [MAX_TABLE, usize::MAX - 1, usize::MAX] {
+            let tables = gamma_tables(n);
+            assert_eq!((tables.g.len(), tables.d.len()), (MAX_TABLE + 1, MAX_TABLE + 1));
+            assert_eq!(tables.lent().check(), Err(Refusal::TableLengths));
+        }
     }
 }

@@ -9,10 +9,10 @@ use crate::{Address, Refusal};
 /// ```
 /// use teakpool::{Refusal, Tables};
 ///
-/// let tables = teakpool::gamma_tables(40);
-/// assert_eq!(tables.lent().check(), Ok(()));
-/// let unequal = Tables::new(&tables.g, &tables.d[..40]);
-/// assert_eq!(unequal.check(), Err(Refusal::TableLengths));
+/// let (mut g, mut d) = ([0.0; 41], [0.0; 41]);
+/// teakpool::fill_gamma_tables(&mut g, &mut d);
+/// assert_eq!(Tables::new(&g, &d).check(), Ok(()));
+/// assert_eq!(Tables::new(&g, &d[..40]).check(), Err(Refusal::TableLengths));
 /// ```
 #[derive(Debug, Clone, Copy)]
 #[non_exhaustive]
@@ -113,12 +113,11 @@ impl PriorRecords {
     /// Adds a node with its singleton count and its children with their counts. Nodes and the
     /// children of one node are to come ascending; `check` tests it.
     pub fn node(&mut self, address: Address, singleton: u32, children: &[(Address, u32)]) {
-        let first = (self.children.len() / RECORD_BYTES) as u32 + 1;
-        let link = if children.is_empty() { 0 } else { first };
-        self.nodes.extend(record_bytes(address, singleton, link));
+        let first = self.children.len() / RECORD_BYTES + 1;
+        let first_link = if children.is_empty() { 0 } else { link(first) };
+        self.nodes.extend(record_bytes(address, singleton, first_link));
         for (index, (child, count)) in children.iter().enumerate() {
-            let own = first + index as u32;
-            let next = if index + 1 < children.len() { own + 1 } else { 0 };
+            let next = if index + 1 < children.len() { link(first + index + 1) } else { 0 };
             self.children.extend(record_bytes(*child, *count, next));
         }
     }
@@ -127,4 +126,11 @@ impl PriorRecords {
     pub fn lent(&self) -> Priors<'_> {
         Priors::new(&self.nodes, &self.children)
     }
+}
+
+/// A record's number as a link. Where 32 bits do not hold it there are too many records, which is
+/// refused.
+#[cfg(feature = "std")]
+fn link(number: usize) -> u32 {
+    u32::try_from(number).unwrap_or(u32::MAX)
 }

@@ -7,7 +7,8 @@
 //! training that has begun. A reading that has no answer gives `Ok(None)`. Nothing is allocated by a
 //! call, and nothing is kept between calls.
 //!
-//! ```
+#![cfg_attr(feature = "std", doc = "```")]
+#![cfg_attr(not(feature = "std"), doc = "```ignore")]
 //! use teakpool::*;
 //!
 //! // By the prior, paths ended at 1/7 once, went on to 0/7 twice and to 0/9 three times.

@@ -33,7 +33,8 @@ impl State {
 /// A tracker over a lent book (24 bytes an entry) and queue (516 bytes a place, as many as the
 /// window has paths). While it lives nobody else can write there.
 ///
-/// ```
+#[cfg_attr(feature = "std", doc = "```")]
+#[cfg_attr(not(feature = "std"), doc = "```ignore")]
 /// use teakpool::*;
 ///
 /// # fn main() -> Result<(), Refusal> {
@@ -218,7 +219,8 @@ impl<'m> Tracker<'m> {
     /// 3 to 7 for the priors, 9 for the tracker's form, 13 where the output has fewer places than the
     /// node has children.
     ///
-    /// ```
+    #[cfg_attr(feature = "std", doc = "```")]
+    #[cfg_attr(not(feature = "std"), doc = "```ignore")]
     /// use teakpool::*;
     ///
     /// let (node, child) = (Address::new(1, 7), Address::new(0, 9));
@@ -313,7 +315,8 @@ impl<'m> Tracker<'m> {
     /// 1 and 2 for the tables, 3 to 7 for the priors, 9 for the tracker's form, 13 where the output has
     /// fewer places than there are such nodes; then 14 and 15 by node ascending.
     ///
-    /// ```
+    #[cfg_attr(feature = "std", doc = "```")]
+    #[cfg_attr(not(feature = "std"), doc = "```ignore")]
     /// use teakpool::*;
     ///
     /// let tables = gamma_tables(7);
@@ -389,7 +392,8 @@ const PATH_ENTRIES: usize = 2 * MAX_STEPS - 1;
 /// the path that goes on to a child which its prior does not have, 15 where the tables are too short
 /// even for this path alone, 1 to 7 for tables and priors; and 10 for the number of steps.
 ///
-/// ```
+#[cfg_attr(feature = "std", doc = "```")]
+#[cfg_attr(not(feature = "std"), doc = "```ignore")]
 /// use teakpool::*;
 ///
 /// let (node, nine) = (Address::new(1, 7), Address::new(0, 9));

@@ -1,4 +1,4 @@
-//! The kit's check rows, through the archive. G(k) = k × k and D(k) = 4k up to
+//! The kit's check rows, through the archive, with the feature `std` and without. G(k) = k × k and D(k) = 4k up to
 //! index 7; the prior of (1,7) has singleton 1 and children (0,7) with 2 and (0,9) with 3; the
 //! window is 1.
 
@@ -11,24 +11,24 @@ const NINE: Address = Address::new(0, 9);
 struct Kit {
     g: Vec<f64>,
     d: Vec<f64>,
-    records: PriorRecords,
+    nodes: [u8; RECORD_BYTES],
+    children: Vec<u8>,
 }
 
 impl Kit {
     fn up_to(last: u32) -> Kit {
-        let mut records = PriorRecords::default();
-        records.node(NODE, 1, &[(SEVEN, 2), (NINE, 3)]);
         Kit {
             g: (0..=last).map(|k| f64::from(k * k)).collect(),
             d: (0..=last).map(|k| f64::from(4 * k)).collect(),
-            records,
+            nodes: record_bytes(NODE, 1, 1),
+            children: [record_bytes(SEVEN, 2, 2), record_bytes(NINE, 3, 0)].concat(),
         }
     }
     fn tables(&self) -> Tables<'_> {
         Tables::new(&self.g, &self.d)
     }
     fn priors(&self) -> Priors<'_> {
-        self.records.lent()
+        Priors::new(&self.nodes, &self.children)
     }
 }
 
@@ -157,13 +157,24 @@ fn path_lengths_in_a_training() {
 #[test]
 fn paths_as_bytes() {
     let (mut book, mut other) = ([0; 8 * ENTRY_BYTES], [0; 8 * ENTRY_BYTES]);
-    let path = path_bytes(&[NODE, NINE, NODE]);
+    let path = [NODE, NINE, NODE].map(Address::bytes).concat();
     let mut tracker = Tracker::open(0, &mut book, &mut []).unwrap();
     assert_eq!(tracker.add_path_bytes(&path[..23]), Err(Refusal::PathLength));
     tracker.add_path_bytes(&path).unwrap();
     let mut same = Tracker::open(0, &mut other, &mut []).unwrap();
     same.add_path(&[NODE, NINE, NODE]).unwrap();
     assert_eq!((tracker.state(), tracker.book()), (same.state(), same.book()));
+}
+
+/// What the feature `std` adds holds the same bytes.
+#[cfg(feature = "std")]
+#[test]
+fn what_is_put_together_with_std() {
+    let kit = Kit::up_to(7);
+    let mut records = PriorRecords::default();
+    records.node(NODE, 1, &[(SEVEN, 2), (NINE, 3)]);
+    assert_eq!((records.lent().nodes, records.lent().children), (kit.priors().nodes, kit.priors().children));
+    assert_eq!(path_bytes(&[NODE, NINE]), [NODE, NINE].map(Address::bytes).concat());
 }
 
 #[test]

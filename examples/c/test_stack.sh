@@ -1,0 +1,52 @@
+#!/usr/bin/env bash
+# Measures the stack that each exported function takes in the archive's machine code, and holds it against what the header states. A
+# number that is missing is no pass; the second half tries what must not pass.
+set -euo pipefail
+cd "$(dirname "$0")/../.."
+
+archive=$(prebuilt/archive)
+work=$(mktemp -d)
+trap 'rm -rf "$work"' EXIT
+
+nm "$archive" | sed -n 's/^.* T \(teakpool_.*\)$/\1/p' | sort >"$work/exported"
+stack_holds() { # HEADER MEASURED
+    local stated taken
+    stated=$(sed -n 's/^#define TEAKPOOL_STACK \([0-9]*\)u$/\1/p' "$1")
+    taken=$(sort -n "$2" | sed -n '$s/^\([0-9]*\) .*$/\1/p')
+    [[ $stated =~ ^[0-9]+$ ]] || { echo "stack: the header states no number" && return 1; }
+    [[ $taken =~ ^[0-9]+$ ]] || { echo "stack: no number was measured" && return 1; }
+    sed -n 's/^[0-9][0-9]* \(teakpool_[a-z_]*\)$/\1/p' "$2" | sort | diff "$work/exported" - ||
+        { echo "stack: not every function was measured" && return 1; }
+    [ "$taken" -le "$stated" ] || { echo "stack: a call can take $taken bytes, and the header states $stated" && return 1; }
+}
+objdump -dr --no-show-raw-insn "$archive" >"$work/code"
+awk -f examples/c/stack.awk "$work/code" >"$work/stack"
+sort -n "$work/stack"
+stack_holds include/teakpool.h "$work/stack"
+
+not_noticed() { # WHAT
+    echo "stack: $1 is not noticed"
+    exit 1
+}
+for change in '/ teakpool_stats$/d' 's/^[0-9]* teakpool_stats$/ teakpool_stats/' 's/^[0-9]* //' \
+    's/^[0-9]* teakpool_train$/1025 teakpool_train/' d; do
+    sed "$change" "$work/stack" >"$work/changed"
+    ! stack_holds include/teakpool.h "$work/changed" >"$work/told" || not_noticed "'$change' in what is measured"
+done
+for change in '/define TEAKPOOL_STACK/d' 's/STACK 1024u/STACK 900u/' 's/STACK 1024u/STACK u/'; do
+    sed "$change" include/teakpool.h >"$work/changed"
+    ! stack_holds "$work/changed" "$work/stack" >"$work/told" || not_noticed "'$change' in the header"
+done
+
+# What stack.awk does not understand it does not measure: no function, a stack pointer set in another way, calls by a pointer, calls
+# whose function is not told, and a function that calls itself.
+one='0000000000000000 <teakpool_one>:'
+for code in '' "$one\n   0:\tmov    %rax,%rsp" "$one\n   0:\tcall   *%rax" "$one\n   0:\tcall   5 <teakpool_one+0x5>\n   5:\tret" \
+    "$one\n   0:\tjmp    *%rax" "$one\n   0:\tcall   5\n\t\t1: R_X86_64_PLT32\tteakpool_one-0x4"; do
+    ! printf '%b\n' "$code" | awk -f examples/c/stack.awk >"$work/told" 2>&1 || not_noticed "'$code'"
+done
+expected="$((8 + 8 + 32 + 8 + 16 + 128)) teakpool_one"
+measured=$(printf '%b\n' "$one\n   0:\tpush   %rbx\n   1:\tsub    \$0x20,%rsp\n   5:\tcall   9\n\t\t6: R_X86_64_PLT32\ttwo-0x4" \
+    '0000000000000000 <two>:\n   0:\tsub    $0x10,%rsp' | awk -f examples/c/stack.awk)
+[ "$measured" = "$expected" ] || { echo "stack: '$measured' is measured, and not '$expected'" && exit 1; }
+echo "stack: no call takes more than the header states"
