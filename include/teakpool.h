@@ -56,6 +56,11 @@
  *   sequences       516 bytes a path, as in a queue; bytes after its steps are not read
  *   tables          g[k] is ln gamma at k and d[k] is digamma at k; index 0 is never read
  *
+ * Figures. They are the same where their 64 bits are, and any NaN is the same as any NaN: plus zero and minus zero are two figures.
+ * No reading tells minus zero: not as a divergence, nor as a probability, nor in the statistics. Divergences and probabilities are not
+ * below 0 either, so their 64 bits, as unsigned numbers, ascend as the figures do. teakpool_stats can give minus zero, of values that
+ * hold it or that round to it; docs/RULES.md, section 9, says where. Values that are all zero are all plus zero.
+ *
  * The form of a tracker. Every call on a tracker but an opening tests it; 9 says that it is broken. It asks for
  *   - a book of 1 to 16,384 whole entries, and a queue of at least as many places as the window in `state`;
  *   - a window up to 1,024, entries used up to the capacity, paths accepted up to 16,777,216;
@@ -258,7 +263,7 @@ uint32_t teakpool_train(const double *g, size_t g_length, const double *d, size_
 
 /* A baseline's figures at a sequence length: mean and variance of maximum, minimum, number, sum and sum of squares. Between two
  * knots they lie on the straight line through them, past the last on the line through the last two; below the first, and with no
- * knots, they are zeros.
+ * knots, they are plus zero.
  * Limits: s 1 to 64, that of the training; at most 1,024 knots, strictly rising; values_length exactly 10 x knots_length. So both
  * slices are lent as long as the training's count says.
  * Refused: 17 for s, the knots or values_length; 18 if there is one knot and the length is past it. */

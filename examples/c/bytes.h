@@ -1,9 +1,11 @@
-/* What the programs here share: fields in bytes, written apart from the header's own, and a count of what is not as expected. */
+/* What the programs here share: fields in bytes, written apart from the header's own, equality of figures, and a count of what is
+ * not as expected. */
 #ifndef BYTES_H
 #define BYTES_H
 
 #include <stdint.h>
 #include <stdio.h>
+#include <string.h>
 
 static int failures = 0;
 
@@ -13,6 +15,12 @@ static inline void expect(int holds, const char *what)
         printf("not as expected: %s\n", what);
         failures++;
     }
+}
+
+/* The same figure: the same 64 bits, or a NaN each. */
+static inline int same(double one, double other)
+{
+    return memcmp(&one, &other, sizeof one) == 0 || (one != one && other != other);
 }
 
 static inline void put_word(uint8_t *at, uint32_t word)

@@ -1,5 +1,5 @@
 /* The plain functions on two paths. Every answer is held against the figure that follows by hand from tables with G(k) = k * k and
- * D(k) = 4k. */
+ * D(k) = 4k, figures by their bits. */
 #include "teakpool.h"
 #include "bytes.h"
 
@@ -70,10 +70,10 @@ static void read_one_divergence(double divergence)
     double value = -1.0;
     uint32_t code = teakpool_posterior_kl_divergence(state, book, sizeof book, queue, sizeof queue, nodes, sizeof nodes, children,
                                                      sizeof children, g, 8, d, 8, 1, 7, &value);
-    expect(code == TEAKPOOL_DONE && value == divergence, "the divergence of (1,7)");
+    expect(code == TEAKPOOL_DONE && same(value, divergence), "the divergence of (1,7)");
     code = teakpool_posterior_kl_divergence(state, book, sizeof book, queue, sizeof queue, nodes, sizeof nodes, children,
                                             sizeof children, g, 8, d, 8, 0, 9, &value);
-    expect(code == TEAKPOOL_NONE && value == divergence, "(0,9) has no prior: none, and nothing is written");
+    expect(code == TEAKPOOL_NONE && same(value, divergence), "(0,9) has no prior: none, and nothing is written");
 }
 
 static void read_all_divergences(double divergence)
@@ -88,7 +88,7 @@ static void read_all_divergences(double divergence)
                                          &node_point);
     expect(code == TEAKPOOL_DONE, "the divergences of all nodes");
     expect(counts[0] == 1 && counts[1] == 1, "one place filled, one node skipped");
-    expect(is_address(addresses, 1, 7) && figures[0] == divergence && figures[1] == -1.0, "the place of (1,7)");
+    expect(is_address(addresses, 1, 7) && same(figures[0], divergence) && same(figures[1], -1.0), "the place of (1,7)");
     expect(node_scale == -5 && node_point == 5, "no node is named");
 }
 
@@ -101,8 +101,8 @@ static void read_statistics(double divergence)
     uint32_t code = teakpool_kl_div_stats(state, book, sizeof book, queue, sizeof queue, nodes, sizeof nodes, children,
                                           sizeof children, g, 8, d, 8, figures, counts, &node_scale, &node_point);
     expect(code == TEAKPOOL_DONE, "the statistics");
-    expect(figures[0] == divergence && figures[1] == divergence, "maximum and minimum");
-    expect(figures[2] == divergence && figures[3] == divergence * divergence, "sum and sum of squares");
+    expect(same(figures[0], divergence) && same(figures[1], divergence), "maximum and minimum");
+    expect(same(figures[2], divergence) && same(figures[3], divergence * divergence), "sum and sum of squares");
     expect(counts[0] == 1 && counts[1] == 1 && counts[2] == 1, "one above 1.0e-10, of length 1, one skipped");
     expect(node_scale == -5 && node_point == 5, "no node is named");
 }
@@ -117,7 +117,7 @@ static void read_short_tables(void)
                                           sizeof children, g, 7, d, 7, figures, counts, &node_scale, &node_point);
     expect(code == TEAKPOOL_PAST_TABLE, "tables that end at 6");
     expect(node_scale == 1 && node_point == 7, "the node that 15 names");
-    expect(figures[0] == 0.0 && counts[0] == 9, "no statistics are written");
+    expect(same(figures[0], 0.0) && counts[0] == 9, "no statistics are written");
 }
 
 static void read_probabilities(void)
@@ -129,7 +129,7 @@ static void read_probabilities(void)
     uint32_t code = teakpool_prob_vector(state, book, sizeof book, queue, sizeof queue, nodes, sizeof nodes, children,
                                          sizeof children, 1, 7, addresses, sizeof addresses, figures, 2, &places, &ending);
     expect(code == TEAKPOOL_DONE && places == 2, "the probabilities at (1,7)");
-    expect(figures[0] == 2.0 / 7.0 && figures[1] == 3.0 / 7.0 && ending == 2.0 / 7.0, "2/7, 3/7, ending 2/7");
+    expect(same(figures[0], 2.0 / 7.0) && same(figures[1], 3.0 / 7.0) && same(ending, 2.0 / 7.0), "2/7, 3/7, ending 2/7");
     expect(is_address(addresses, 0, 7) && is_address(addresses + TEAKPOOL_STEP_SIZE, 0, 9), "the children ascend");
     code = teakpool_evidence_prob_vector(state, book, sizeof book, queue, sizeof queue, 0, 9, addresses, sizeof addresses, figures,
                                          2, &places, &ending);
@@ -160,8 +160,8 @@ static void read_evidence(void)
                                                   &places, &ending);
     expect(code == TEAKPOOL_DONE && places == 2, "the evidence of (1,7)");
     expect(is_address(addresses, -1, 3) && is_address(addresses + TEAKPOOL_STEP_SIZE, 0, 9), "the children ascend by signed scale");
-    expect(figures[0] == 1.0 / 4.0 && figures[1] == 2.0 / 4.0 && ending == 1.0 / 4.0, "1/4, 2/4, ending 1/4");
-    expect(figures[2] == -1.0, "the place past the answer keeps what it held");
+    expect(same(figures[0], 1.0 / 4.0) && same(figures[1], 2.0 / 4.0) && same(ending, 1.0 / 4.0), "1/4, 2/4, ending 1/4");
+    expect(same(figures[2], -1.0), "the place past the answer keeps what it held");
 }
 
 static void train_and_ask(void)
@@ -185,8 +185,45 @@ static void train_and_ask(void)
     expect(code == TEAKPOOL_DONE, "training on two sequences of one path");
     expect(count == 1 && knots[0] == 1, "one knot, of length 1");
     expect(teakpool_stats(knots, 1, values, TEAKPOOL_KNOT_VALUES, 2, 1, figures) == TEAKPOOL_DONE, "the baseline at length 1");
-    expect(figures[0] == 8.0 && figures[1] == 4.0, "maxima 6 and 10: mean 8, variance 4");
+    expect(same(figures[0], 8.0) && same(figures[1], 4.0), "maxima 6 and 10: mean 8, variance 4");
     expect(teakpool_stats(knots, 1, values, TEAKPOOL_KNOT_VALUES, 2, 2, figures) == TEAKPOOL_ONE_KNOT, "past the only knot");
+}
+
+/* A knot's values: sum and squares of the maxima, and zeros for the other figures. */
+static void put_knot(double *at, double sum, double squares)
+{
+    memset(at, 0, TEAKPOOL_KNOT_VALUES * sizeof at[0]);
+    at[0] = sum;
+    at[1] = squares;
+}
+
+/* Minus zero comes out of a baseline that holds it, or that rounds to it, and never below the first knot. */
+static void minus_zeros(void)
+{
+    static const struct {
+        double sum, squares;
+        uint32_t s;
+        double mean, variance;
+    } at_knot[] = {{-0.0, 0.0, 1, -0.0, 0.0}, {-0x1p-1074, 0.0, 2, -0.0, 0.0}, {0.0, -0.0, 1, 0.0, -0.0}, {-0.0, -0.0, 1, -0.0, -0.0}};
+    static const struct {
+        double right;
+        uint32_t length;
+        double mean;
+    } along[] = {{-0x1p-1074, 2, -0.0}, {-0.0, 1, -0.0}, {-0.0, 5, -0.0}, {-0.0, 0, 0.0}, {-0.0, 2, 0.0}, {-0.0, 9, 0.0}};
+    static const uint32_t knots[2] = {1, 5};
+    double values[2 * TEAKPOOL_KNOT_VALUES], figures[10];
+    for (size_t i = 0; i < sizeof at_knot / sizeof at_knot[0]; i++) {
+        put_knot(values, at_knot[i].sum, at_knot[i].squares);
+        expect(teakpool_stats(knots, 1, values, TEAKPOOL_KNOT_VALUES, at_knot[i].s, 1, figures) == TEAKPOOL_DONE, "a lent baseline");
+        expect(same(figures[0], at_knot[i].mean) && same(figures[1], at_knot[i].variance), "the sign of zero at a knot");
+    }
+    for (size_t i = 0; i < sizeof along / sizeof along[0]; i++) {
+        put_knot(values, -0.0, 0.0);
+        put_knot(values + TEAKPOOL_KNOT_VALUES, along[i].right, 0.0);
+        expect(teakpool_stats(knots, 2, values, 2 * TEAKPOOL_KNOT_VALUES, 1, along[i].length, figures) == TEAKPOOL_DONE,
+               "two knots of minus zero");
+        expect(same(figures[0], along[i].mean) && same(figures[1], 0.0), "the sign of zero at, between, below and past knots");
+    }
 }
 
 int main(void)
@@ -209,6 +246,7 @@ int main(void)
     small_books(path, sizeof path);
     read_evidence();
     train_and_ask();
+    minus_zeros();
     if (failures == 0) {
         printf("rows: every answer is as expected\n");
     }

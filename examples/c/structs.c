@@ -97,7 +97,7 @@ static void vectors(void)
     expect(memcmp(addresses, plain_addresses, sizeof addresses) == 0 && memcmp(figures, plain_figures, sizeof figures) == 0,
            "the vector's places");
     expect(teakpool_tracker_evidence_prob_vector(&tracker, node, output, &vector) == TEAKPOOL_DONE, "the evidence");
-    expect(vector.places == 1 && vector.ending == 0.0 && figures[0] == 1.0, "all of it goes to (0,9)");
+    expect(vector.places == 1 && same(vector.ending, 0.0) && figures[0] == 1.0, "all of it goes to (0,9)");
     output.places = 0;
     expect(teakpool_tracker_evidence_prob_vector(&tracker, node, output, &vector) == TEAKPOOL_OUTPUT_SHORT, "no place");
     expect(teakpool_tracker_prob_vector(&tracker, priors, teakpool_make_address(-1, 3), output, &vector) == TEAKPOOL_NONE,
@@ -141,7 +141,7 @@ static void named(uint32_t number, const char *what)
            what);
     expect(list.node.scale == 1 && list.node.point == 7 && list.places == 9 && list.skipped == 9, "the node in a list");
     expect(teakpool_tracker_kl_div_stats(&tracker, priors, tables, &now) == number, what);
-    expect(now.node.scale == 1 && now.node.point == 7 && now.maximum == 0.0 && now.skipped == 0, "the node in statistics");
+    expect(now.node.scale == 1 && now.node.point == 7 && same(now.maximum, 0.0) && now.skipped == 0, "the node in statistics");
 }
 
 static void tried(size_t entries, struct teakpool_path path, uint32_t number, int names, const char *what)
@@ -221,7 +221,7 @@ static void nothing_lent(void)
     sequences = teakpool_make_sequences(NULL, 0, teakpool_make_s(1), teakpool_make_n(0), teakpool_make_rate(1));
     expect(teakpool_baseline_train(&baseline, no_priors, tables, sequences, tracker.book) == TEAKPOOL_DONE,
            "a training on no paths");
-    expect(teakpool_baseline_stats(&baseline, 7, &usual) == TEAKPOOL_DONE && usual.sum.mean == 0.0, "a baseline without knots");
+    expect(teakpool_baseline_stats(&baseline, 7, &usual) == TEAKPOOL_DONE && same(usual.sum.mean, 0.0), "a baseline without knots");
     lend(LENGTH - 1);
 }
 

@@ -176,7 +176,7 @@ Rows =
     -- add (1,7),(0,9): divergence 6, one skipped, moments 6 and 36
     (kl (tracker 3 (first ∷ [])) 7 (rank 1 7) ≡ answered (flt 6))
     × (allKl (tracker 3 (first ∷ []))
-      ≡ record { answer = answered (record { places = 1; skipped = 1 }); output = lentOutput (addressOn 1 7 ++ listOf 16 (λ k. 5)) (flt 6 ∷ flt 5 ∷ flt 5 ∷ []) })
+    ≡ record { answer = answered (record { places = 1; skipped = 1 }); output = lentOutput (addressOn 1 7 ++ listOf 16 (λ k. 5)) (flt 6 ∷ flt 5 ∷ flt 5 ∷ []) })
     × (klStats (tracker 3 (first ∷ [])) ≡ answered (record { stats = ofOne 6; skipped = 1 }))
     -- then add (1,7): ending 1, (0,9) stays with 0, divergence 10, length 1
     × (evidence (tracker 3 (first ∷ second ∷ [])) (rank 1 7) ≡ some (record { ending = 1; children = row (rank 0 9) 0 ∷ [] }))
@@ -185,7 +185,7 @@ Rows =
     × (klStats (tracker 3 (first ∷ second ∷ [])) ≡ answered (record { stats = ofOne 10; skipped = 1 }))
     -- probabilities then 2/7, 3/7, ending 2/7; evidence of (0,9): none
     × (probabilities (tracker 3 (first ∷ second ∷ [])) (rank 1 7)
-      ≡ record { answer = answered (record { places = 2; ending = fdiv (flt 2) (flt 7) }); output = lentOutput (addressOn 0 7 ++ (addressOn 0 9 ++ listOf 8 (λ k. 5))) (fdiv (flt 2) (flt 7) ∷ fdiv (flt 3) (flt 7) ∷ flt 5 ∷ []) })
+    ≡ record { answer = answered (record { places = 2; ending = fdiv (flt 2) (flt 7) }); output = lentOutput (addressOn 0 7 ++ (addressOn 0 9 ++ listOf 8 (λ k. 5))) (fdiv (flt 2) (flt 7) ∷ fdiv (flt 3) (flt 7) ∷ flt 5 ∷ []) })
     × (evidenceOnly (tracker 3 (first ∷ second ∷ [])) (rank 0 9) ≡ record { answer = nothing; output = fives })
     -- tables ending at 6: 15, of the node (1,7)
     × (kl (tracker 3 (first ∷ second ∷ [])) 6 (rank 1 7) ≡ refused 15 (some (record { scale = pos 1; point = 7 })))

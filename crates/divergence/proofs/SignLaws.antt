@@ -169,7 +169,7 @@ add-minus f (fin s m e) (fin t n d) h k i =
     let u = value-units f s m e h in
     let v = value-units f t n d k in
     let z = sum-both f (m * up e * down d) (n * up d * down e) (down e * down d) (u .0) (v .0) (mul-pos (down-pos e) (down-pos d))
-        (common-left (m * up e) (u .0) (down e) (down d) (2 ^ low f) (u .1)) (common-right (n * up d) (v .0) (down e) (down d) (2 ^ low f) (v .1)) s t i in
+    (common-left (m * up e) (u .0) (down e) (down d) (2 ^ low f) (u .1)) (common-right (n * up d) (v .0) (down e) (down d) (2 ^ low f) (v .1)) s t i in
     (zero-form f s m e (down d) (down-pos d) h (z .0 .0) (z .0 .1), zero-form f t n d (down e) (down-pos e) k (z .1 .0) (z .1 .1))
 
 -- ---- a quotient of two values without a minus has none

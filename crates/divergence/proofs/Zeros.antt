@@ -48,11 +48,14 @@ equal-by-bits a b A B = (same, equal)
   where
     of-pattern : (n : ℕ) → n < 2 ^ 64 → isNan (ofBits binary64 n) ≡ false → toBits binary64 (ofBits binary64 n) ≡ n
     of-pattern n N h = toBits-ofBits binary64 n N (not-true (isNan (ofBits binary64 n)) h)
+
     go : (x : Bool) → isNan (ofBits binary64 a) ≡ x → ofBits binary64 a ≡ ofBits binary64 b → SameBits a b
     go true h e = inr (nanBits-is binary64 a ∙ h, nanBits-is binary64 b ∙ ap isNan (sym e) ∙ h)
     go false h e = inl (sym (of-pattern a A h) ∙ ap (toBits binary64) e ∙ of-pattern b B (ap isNan (sym e) ∙ h))
+
     same : ofBits binary64 a ≡ ofBits binary64 b → SameBits a b
     same e = go (isNan (ofBits binary64 a)) refl e
+
     equal : SameBits a b → ofBits binary64 a ≡ ofBits binary64 b
     equal (inl e) = ap (ofBits binary64) e
     equal (inr (h, k)) = one-nan (ofBits binary64 a) (sym (nanBits-is binary64 a) ∙ h) ∙ sym (one-nan (ofBits binary64 b) (sym (nanBits-is binary64 b) ∙ k))
@@ -286,6 +289,7 @@ module _ (s : Seen) (t : LentTables) (p : LentPriors) (rank : ℕ) (o : Output) 
       of-node NoPrior h = tt
       of-node MissingChild h = tt
       of-node PastTable h = tt
+
       of-listed : (e : Option Counts) → ToldWithout figureOf (ofListed (t .G) (t .D) (p .nodes) (p .children) rank e)
       of-listed none = tt
       of-listed (some e) = of-node (nodeDivergence (t .G) (t .D) (priorOf (p .nodes) (p .children) rank) e) (node-clear (t .G) (t .D) (priorOf (p .nodes) (p .children) rank) e)
@@ -313,8 +317,7 @@ pub no-minus-zero : NoMinusZero
 no-minus-zero s t p rank o =
     let prob = probReading (s .form) (p .nodes) (p .children) (s .listed) rank (roomIn o) in
     let evidence = evidenceReading (s .form) (s .listed) rank (roomIn o) in
-    let figures : Counts → List Float = λ (c : Counts). figuresOf (total c) (c .children) in
-    (
+    let figures : Counts → List Float = λ (c : Counts). figuresOf (total c) (c .children) in (
       one-told s t p rank o,
       written-without (λ (a : Divergences). valuesOf (a .places)) (allReading (s .form) (t .G) (t .D) (p .nodes) (p .children) (s .listed) (roomIn o)) (o .figures) (all-told s t p rank o),
       stats-told s t p rank o,

@@ -16,16 +16,3 @@ pub fn same_figures(one: &[f64], other: &[f64]) -> bool {
 pub fn is_minus_zero(figure: f64) -> bool {
     same_figure(figure, -0.0)
 }
-
-#[cfg(test)]
-mod tests {
-    use super::*;
-
-    #[test]
-    fn zeros_differ_and_nans_do_not() {
-        assert!(!same_figure(0.0, -0.0) && same_figure(-0.0, -0.0));
-        assert!(same_figure(f64::NAN, -f64::from_bits(f64::NAN.to_bits() + 1)));
-        assert!(!same_figure(f64::NAN, f64::INFINITY));
-        assert!(!same_figures(&[1.0], &[1.0, 1.0]) && !same_figures(&[1.0, 0.0], &[1.0, -0.0]));
-    }
-}

@@ -7,6 +7,9 @@
 //! training that has begun. A reading that has no answer gives `Ok(None)`. Nothing is allocated by a
 //! call, and nothing is kept between calls.
 //!
+//! Figures are promised by their 64 bits (`f64::to_bits`), any NaN as any NaN; `==` on the answers holds
+//! plus zero and minus zero equal, as Rust does. No reading tells minus zero; [`Baseline::stats`] can.
+//!
 #![cfg_attr(feature = "std", doc = "```")]
 #![cfg_attr(not(feature = "std"), doc = "```ignore")]
 //! use teakpool::*;

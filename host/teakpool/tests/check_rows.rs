@@ -124,6 +124,23 @@ fn means_between_and_past_knots() {
     assert_eq!((mean(6), mean(21), mean(0)), (9.0, 12.0, 0.0));
 }
 
+/// A baseline's mean of the maxima as bits: two knots, with these sums of one sequence.
+fn mean_bits(sums: [f64; 2], length: u32) -> u64 {
+    let knot = |sum: f64| [vec![sum], vec![0.0; KNOT_VALUES - 1]].concat();
+    let baseline = Baseline { s: 1, knots: &[1, 5], values: &sums.map(knot).concat() };
+    baseline.stats(length).unwrap().maximum.mean.to_bits()
+}
+
+#[test]
+fn the_sign_of_zero_in_a_baseline() {
+    let least = -f64::from_bits(1);
+    assert_eq!(mean_bits([-0.0, least], 1), (-0.0_f64).to_bits());
+    assert_eq!(mean_bits([-0.0, least], 2), (-0.0_f64).to_bits());
+    for length in [0, 2, 9] {
+        assert_eq!(mean_bits([-0.0, -0.0], length), 0, "length {}", length);
+    }
+}
+
 #[test]
 fn path_lengths_and_windows() {
     let longest = vec![NODE; 65];
