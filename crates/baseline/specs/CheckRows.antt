@@ -5,7 +5,7 @@ use mathlib.Core.List.{List, [], _∷_, _++_, map, flatMap}
 use mathlib.Core.Option.{Option, none, some}
 use Prim.Native.Nat.{ℕ, _+_, _-_, _*_}
 use lib.IntN.{pos}
-use lib.ListN.{length, replicate}
+use lib.ListN.{length}
 use lib.Ieee.{Float, binary64, add, sub, mul, div, le, ofInt, ofBits}
 use Rattle.priors.specs.Below.{allBelow, listOf}
 use Rattle.priors.specs.Word.{word, wordBytes, store}
@@ -42,7 +42,7 @@ use Rattle.baseline.specs.declared.figures.KLDivergenceBaselineStats.{KL
 use Rattle.baseline.specs.Sums.{added, sumsAt, putSums}
 use Rattle.baseline.specs.Training as Training
 use Rattle.baseline.specs.Training.{TrainAnswer, inputOf, addAll, started, trainAsked}
-use Rattle.baseline.specs.Figures.{toMeanVar, interpolated, noFigures}
+use Rattle.baseline.specs.Figures.{toMeanVar, interpolated}
 use Rattle.baseline.specs.Stats.{notAbove, knotFigures, lineFigures, figuresAfter, figuresAt, risesAt, rising, baselineFits, pastOneKnot, statsRefusal, baselineReading}
 
 -- ---- a tracker
@@ -148,8 +148,8 @@ ofOne x = record { max = flt x; min = flt x; «nz_count» = 1; «moment1_nz» = 
 abbrev pub maximaOf : Reading KLDivergenceBaselineStats → Reading MeanVar
 maximaOf r = mapped (λ (f : KLDivergenceBaselineStats). f .max) r
 
-abbrev pub meanAnd : Float → Float → Reading MeanVar
-meanAnd mean variance = answered (record { mean = mean; variance = variance })
+abbrev pub meanAnd : Float → Float → MeanVar
+meanAnd mean variance = record { mean = mean; variance = variance }
 
 -- ---- baselines that are lent
 
@@ -157,17 +157,23 @@ meanAnd mean variance = answered (record { mean = mean; variance = variance })
 abbrev pub least : Float
 least = ofBits binary64 0x8000_0000_0000_0001
 
--- a knot's values: the maxima's sum and squares, and zeros for the other figures
+-- a knot's values: of all five figures this sum and these squares
 abbrev pub knotOf : Float → Float → List Float
-knotOf sum squares = sum ∷ squares ∷ replicate 8 zero64
+knotOf sum squares = flatMap (λ (k : ℕ). sum ∷ squares ∷ []) (listOf 5 (λ k. k))
+
+-- all five figures alike
+abbrev pub alike : Float → Float → Reading KLDivergenceBaselineStats
+alike mean variance =
+    let p = meanAnd mean variance in
+    answered (record { max = p; min = p; «nz_count» = p; «moment1_nz» = p; «moment2_nz» = p })
 
 -- at the one knot of s sequences
-abbrev pub atKnot : Float → Float → ℕ → Reading MeanVar
-atKnot sum squares s = maximaOf (baselineReading (1 ∷ []) (knotOf sum squares) s 1)
+abbrev pub atKnot : Float → Float → ℕ → Reading KLDivergenceBaselineStats
+atKnot sum squares s = baselineReading (1 ∷ []) (knotOf sum squares) s 1
 
--- of one sequence, with two knots at 1 and 5 that have these sums of maxima
-abbrev pub alongKnots : Float → Float → ℕ → Reading MeanVar
-alongKnots left right i = maximaOf (baselineReading (1 ∷ 5 ∷ []) (knotOf left zero64 ++ knotOf right zero64) 1 i)
+-- of one sequence, with two knots at 1 and 5
+abbrev pub alongKnots : List Float → List Float → ℕ → Reading KLDivergenceBaselineStats
+alongKnots left right i = baselineReading (1 ∷ 5 ∷ []) (left ++ right) 1 i
 
 -- ---- the rows
 
@@ -193,30 +199,30 @@ Rows =
     × (firstAdd 2 ≡ 12)
     × (firstAdd 3 ≡ 0)
     -- two sequences, maxima 6 and 10: mean 8, variance 4
-    × (maximaOf (baselineReading (trained .knots) (trained .values) 2 1) ≡ meanAnd (flt 8) (flt 4))
+    × (maximaOf (baselineReading (trained .knots) (trained .values) 2 1) ≡ answered (meanAnd (flt 8) (flt 4)))
     -- means 8 at 1 and 10 at 11: 9 at 6, 12 at 21, 0 at 0
-    × (maximaOf (twoKnots 1) ≡ meanAnd (flt 8) zero64)
-    × (maximaOf (twoKnots 11) ≡ meanAnd (flt 10) zero64)
-    × (maximaOf (twoKnots 6) ≡ meanAnd (flt 9) zero64)
-    × (maximaOf (twoKnots 21) ≡ meanAnd (flt 12) zero64)
-    × (twoKnots 0 ≡ answered noFigures)
+    × (maximaOf (twoKnots 1) ≡ answered (meanAnd (flt 8) zero64))
+    × (maximaOf (twoKnots 11) ≡ answered (meanAnd (flt 10) zero64))
+    × (maximaOf (twoKnots 6) ≡ answered (meanAnd (flt 9) zero64))
+    × (maximaOf (twoKnots 21) ≡ answered (meanAnd (flt 12) zero64))
+    × (twoKnots 0 ≡ alike zero64 zero64)
     -- one knot at 1: answered at 1, 18 at 2
-    × (maximaOf (oneKnot 1) ≡ meanAnd (flt 8) zero64)
+    × (maximaOf (oneKnot 1) ≡ answered (meanAnd (flt 8) zero64))
     × (oneKnot 2 ≡ refused 18 none)
     -- at a knot: a sum of minus zero, or of -5e-324 over two sequences, has the mean minus zero
-    × (atKnot minusZero64 zero64 1 ≡ meanAnd minusZero64 zero64)
-    × (atKnot least zero64 2 ≡ meanAnd minusZero64 zero64)
+    × (atKnot minusZero64 zero64 1 ≡ alike minusZero64 zero64)
+    × (atKnot least zero64 2 ≡ alike minusZero64 zero64)
     -- and squares of minus zero have the variance minus zero, whichever zero the mean is
-    × (atKnot zero64 minusZero64 1 ≡ meanAnd zero64 minusZero64)
-    × (atKnot minusZero64 minusZero64 1 ≡ meanAnd minusZero64 minusZero64)
-    -- between minus zero and -5e-324, a quarter of the way: minus zero
-    × (alongKnots minusZero64 least 2 ≡ meanAnd minusZero64 zero64)
+    × (atKnot zero64 minusZero64 1 ≡ alike zero64 minusZero64)
+    × (atKnot minusZero64 minusZero64 1 ≡ alike minusZero64 minusZero64)
+    -- between minus zero and -5e-324, a quarter of the way: minus zero, means and variances alike
+    × (alongKnots (knotOf minusZero64 minusZero64) (knotOf least least) 2 ≡ alike minusZero64 minusZero64)
     -- between two knots of minus zero, past them, and below them: plus zero
-    × (alongKnots minusZero64 minusZero64 2 ≡ meanAnd zero64 zero64)
-    × (alongKnots minusZero64 minusZero64 9 ≡ meanAnd zero64 zero64)
-    × (alongKnots minusZero64 minusZero64 0 ≡ meanAnd zero64 zero64)
+    × (alongKnots (knotOf minusZero64 minusZero64) (knotOf minusZero64 minusZero64) 2 ≡ alike zero64 zero64)
+    × (alongKnots (knotOf minusZero64 minusZero64) (knotOf minusZero64 minusZero64) 9 ≡ alike zero64 zero64)
+    × (alongKnots (knotOf minusZero64 minusZero64) (knotOf minusZero64 minusZero64) 0 ≡ alike zero64 zero64)
     -- without knots: plus zero
-    × (baselineReading [] [] 1 0 ≡ answered noFigures)
+    × (baselineReading [] [] 1 0 ≡ alike zero64 zero64)
 
 pub rows-hold : Rows
 unfolding le word store lift rank addressOf change countOf Tables.entriesFit Tables.entryFits Tables.lengthsFit Tables.tablesRefusal Priors.ascends Priors.ascendsAfter Priors.chain Priors.chainAscends Priors.chainFits Priors.chainOf Priors.countFits Priors.countSum Priors.findRecord Priors.firstLinkFits Priors.nextLinkFits Priors.priorOf Priors.priorsRefusal Priors.recordAt Priors.records Priors.total Priors.totalFits Priors.wholeRecords keyOf endKey childKey nodeOf kindOf childOf Entries.bytesOf Entries.rowAt Entries.keyAt Entries.rowBytes Entries.rows stepsOf wholePath listedKeys countedKeys Form.bookFits Form.follows Form.formed Form.formedAfter Form.inForm Form.lengthsFit Form.plain Form.queueFits Form.stateFits changeAll addRows Calls.addBook Calls.addNumber Calls.addQueue Calls.addState Calls.bookAfter Calls.leaving Calls.openBook Calls.openNumber Calls.openQueue Calls.openState Calls.placeBytes Calls.queueWith Calls.rowsAfter Calls.stateAfter Paths.total Paths.transitions Paths.endings Recount.windowPart Recount.sequenceLength Recount.enter Recount.enterAll Recount.listing Claims.addRefusal bookStep runs spread listedNodes evidenceOf RecountNodes.nodesListed RecountNodes.followers RecountNodes.childrenListed RecountNodes.nodeCounted RecountNodes.recountNodes Divergence.childTerms Divergence.closed Divergence.divergence Divergence.endingTerm Divergence.lacksChild Divergence.noLess Divergence.nodeDivergence Divergence.term Walks.counted Walks.noted Walks.statsOver Walks.walk Probability.evidenceProbVector Probability.posterior Probability.probVector Probability.withEvidence Probability.withTotal Readings.filledAddresses Readings.filledFigures Readings.withPrior Readings.klReading Readings.allReading Readings.statsReading Readings.probReading Readings.evidenceReading trainAsked Training.trainRefusal Training.sizesRefusal Training.inputFits Training.pathIn Training.recountStats Training.recordsFrom Training.sequenceRecords Training.allRecords Training.addRecords addAll baselineReading statsRefusal baselineFits pastOneKnot rising risesAt allBelow figuresAt figuresAfter notAbove knotFigures lineFigures toMeanVar interpolated sumsAt putSums added flatMap add sub mul div ofInt ofBits

@@ -19,7 +19,6 @@ use Rattle.divergence.specs.declared.sums.Sums.{Sums}
 use Rattle.divergence.specs.declared.statistics.KLDivergenceStats.{KLDivergenceStats}
 use Rattle.divergence.specs.Numbers.{fadd, fsub, fmul, fdiv, flt, zero64}
 use Rattle.divergence.specs.Nodes.{Node, evidenceOf}
-use Rattle.divergence.specs.Divergence.{noSums}
 use Rattle.divergence.specs.Statistics.{Place}
 use Rattle.divergence.specs.Readings.{Reading, nothing, answered, filledAddresses, filledFigures, Divergences, Statistics}
 use Rattle.divergence.specs.Answers.{VectorResult}
@@ -106,6 +105,10 @@ unfoldable pub floatOf : ℕ → List FloatRow → Option Float
 floatOf k [] = none
 floatOf k (r ∷ rs) = cond (eqb (r .key) k) (some (r .count)) (floatOf k rs)
 
+-- the three sums before any term
+abbrev pub noFloats : Sums
+noFloats = record { mine = zero64; other = zero64; dig = zero64 }
+
 -- with ln gamma and digamma as functions of an f64
 module _ (lnGamma digamma : Float → Float) where
   -- one more term, of a prior count a with evidence e
@@ -118,7 +121,7 @@ module _ (lnGamma digamma : Float → Float) where
 
   -- the singleton's, if the prior's is above 0
   unfoldable pub floatEnding : Float → Float → Float → Sums
-  floatEnding T a e = cond (lt zero64 a) (floatTerm T noSums a e) noSums
+  floatEnding T a e = cond (lt zero64 a) (floatTerm T noFloats a e) noFloats
 
   -- a term for each child of the evidence; none at one that the prior lacks
   unfoldable pub floatTerms : Float → List FloatRow → Sums → List FloatRow → Option Sums

@@ -1,5 +1,5 @@
 -- The sign of zero. Figures are equal where their 64 bits are, and any NaN equals any NaN: `≡`, by which every promise holds figures equal, is that. And minus zero
--- comes out of no reading, whatever it sees and is lent. Assumes nothing.
+-- comes out of none of the five readings of a tracker, whatever it sees and is lent. Assumes nothing.
 use Prim.Native.Nat.{ℕ, _^_, _<_}
 use mathlib.Core.Path.{_≡_}
 use mathlib.Core.Bool.{true}

@@ -1,5 +1,6 @@
 // Figures: an f64 is recorded by its bits, low word first. The bits are decoded by exact arithmetic, since sums and products with
 // powers of two round nothing here; decoded and computed figures are then compared as numbers, zeros told apart, NaN equal to NaN.
+use crate::tallies::Tally;
 use crate::tape::forward;
 use crate::tape::word;
 
@@ -62,6 +63,18 @@ pub fn same(x: f64, y: f64) -> bool {
         return 1.0 / x == 1.0 / y;
     }
     x == y
+}
+
+// The comparison itself: the zeros are two figures, any NaN is any NaN, and minus zero is decoded as such.
+pub fn compared() -> Tally {
+    let nan = magnitude(2047, 1, 0);
+    let minus_zero = [0u8, 0, 0, 0, 0, 0, 0, 128];
+    Tally::new()
+        .with(!same(0.0, -0.0))
+        .with(!same(-0.0, 0.0))
+        .with(same(figure(&minus_zero, 0), -0.0))
+        .with(same(nan, -nan))
+        .with(!same(nan, 0.0))
 }
 
 // The place of the figure numbered i of those that stand at a place.

@@ -83,12 +83,13 @@ fn readings() {
 }
 
 fn training() {
-    let mut tape = [0u8; 69632];
+    let mut tape = [0u8; 81920];
     let n = read_file(b"training.bin", &mut tape);
     training_cases::replay(part(&tape, 0, n)).print(b"training");
 }
 
 fn main() {
+    figures::compared().print(b"figures");
     priors();
     calls();
     large_calls();

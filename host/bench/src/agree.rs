@@ -2,6 +2,7 @@
 
 use crate::sides::goko_address;
 use oracle::{Goko, NodeAddress};
+use recount::{same_figure, same_figures};
 use std::collections::BTreeMap;
 use teakpool::{Address, KLDivergenceStats, Output, ProbVector, ENTRY_BYTES};
 
@@ -38,7 +39,18 @@ pub fn places(number: u32, output: &Output, mut theirs: Vec<(NodeAddress, f64)>)
     theirs.sort_by_key(|(node, _)| *node);
     let ours: Vec<(NodeAddress, f64)> =
         output.places(number).map(|(node, figure)| (goko_address(node), figure)).collect();
-    assert!(ours == theirs, "both have the same places");
+    let nodes = |places: &[(NodeAddress, f64)]| places.iter().map(|(node, _)| *node).collect::<Vec<_>>();
+    let figures =
+        |places: &[(NodeAddress, f64)]| places.iter().map(|(_, figure)| *figure).collect::<Vec<_>>();
+    assert!(nodes(&ours) == nodes(&theirs), "both have the same places");
+    assert!(same_figures(&figures(&ours), &figures(&theirs)), "both have the same figures");
+}
+
+/// A divergence is goko's.
+pub fn figure(ours: Option<f64>, theirs: Option<f64>) {
+    let same = |(ours, theirs): (f64, f64)| same_figure(ours, theirs);
+    assert!(ours.is_some() == theirs.is_some(), "both have a divergence or none");
+    assert!(ours.zip(theirs).is_none_or(same), "both have the same divergence");
 }
 
 /// A probability vector is goko's.
@@ -46,7 +58,7 @@ pub fn vector(ours: Option<ProbVector>, output: &Output, theirs: Option<oracle::
     match (ours, theirs) {
         (None, None) => {}
         (Some(ours), Some((children, ending))) => {
-            assert_eq!(ours.ending, ending, "both have the same ending");
+            assert!(same_figure(ours.ending, ending), "both have the same ending");
             places(ours.places, output, children);
         }
         _ => panic!("one side has no vector"),
@@ -57,13 +69,9 @@ pub fn vector(ours: Option<ProbVector>, output: &Output, theirs: Option<oracle::
 pub fn stats(ours: &KLDivergenceStats, goko: &Goko) {
     let (theirs, skipped) = goko.kl_div_stats().expect("goko answers");
     assert_eq!(ours.skipped, skipped, "both skip as many nodes");
-    assert_eq!(
-        (ours.maximum, ours.minimum, ours.number),
-        (theirs.max, theirs.min, theirs.nz_count),
-        "both have the same extremes and number"
-    );
-    assert!(
-        (ours.sum, ours.sum_of_squares) == (theirs.moment1_nz, theirs.moment2_nz) || !hashbrown::ORDERED,
-        "both have the same sums"
-    );
+    assert_eq!(ours.number, theirs.nz_count, "both count as many");
+    let extremes = same_figures(&[ours.maximum, ours.minimum], &[theirs.max, theirs.min]);
+    assert!(extremes, "both have the same extremes");
+    let sums = same_figures(&[ours.sum, ours.sum_of_squares], &[theirs.moment1_nz, theirs.moment2_nz]);
+    assert!(sums || !hashbrown::ORDERED, "both have the same sums");
 }

@@ -7,6 +7,7 @@ use crate::load::{Load, NODES};
 use crate::pace::Formed;
 use crate::sides::{filled, goko_address, goko_path, goko_priors, ENTRIES, MOST_ENTRIES};
 use oracle::{Goko, NodeAddress, Trace};
+use recount::same_figures;
 use std::hint::black_box;
 use teakpool::{path_bytes, place_bytes, Address, Baseline, Output, Sequences, Tables, Tracker, KNOT_VALUES};
 
@@ -95,7 +96,7 @@ fn one_node(load: &mut Load, ours: &Tracker, theirs: &Goko, rounds: usize) {
         agree::vector(ours.evidence_prob_vector(*node, &mut output).expect("it is answered"), &output, known);
         let known = theirs.posterior_kl_divergence(goko_address(*node)).expect("goko answers");
         let divergence = ours.posterior_kl_divergence(tables, priors, *node).expect("it is answered");
-        assert_eq!(divergence, known.flatten(), "both have the same divergence");
+        agree::figure(divergence, known.flatten());
     }
     let each = |ours: &mut dyn FnMut(Address), theirs: &dyn Fn(NodeAddress)| {
         let one = timed(READINGS, || nodes.iter().for_each(|node| ours(*node)));
@@ -179,7 +180,7 @@ fn trainings(load: &mut Load, rounds: usize) {
                 known = oracle::train(&goko_priors, &given, rate).expect("goko trains").1;
             });
             // A hash map's sums go in another order.
-            assert!(trained == known || !hashbrown::ORDERED, "both have the same baseline");
+            assert!(same_figures(&trained, &known) || !hashbrown::ORDERED, "both have the same baseline");
             (one, other)
         });
     }

@@ -139,7 +139,7 @@ fn an_empty_record_makes_squares_infinite() {
     lend_tables(&[0.0; 4], &[0.0; 4]);
     let (_, values) = train(&[prior(NODE, 1, &[])], &[vec![vec![NODE]]], 1).unwrap();
     assert_eq!(values[..4], [f64::MIN, f64::INFINITY, f64::MAX, f64::INFINITY]);
-    assert_eq!(values[4..], [0.0; 6]);
+    assert!(values[4..].iter().all(|value| value.to_bits() == 0));
 }
 
 #[test]

@@ -1,6 +1,6 @@
 //! Equality of figures: the same 64 bits, or a NaN each. Plus zero and minus zero are two figures.
-//! No other comparison of figures decides whether answers agree: the records that hold them have
-//! no `PartialEq`.
+//! Wherever answers are held against one another, this decides whether their figures agree; the
+//! records here that hold figures have no `PartialEq`.
 
 /// The same figure.
 pub fn same_figure(one: f64, other: f64) -> bool {

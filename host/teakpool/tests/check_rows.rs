@@ -121,7 +121,7 @@ fn means_between_and_past_knots() {
     let values = [maxima(6.0, 10.0), maxima(10.0, 10.0)].concat();
     let baseline = Baseline { s: 2, knots: &[1, 11], values: &values };
     let mean = |length: u32| baseline.stats(length).unwrap().maximum.mean;
-    assert_eq!((mean(6), mean(21), mean(0)), (9.0, 12.0, 0.0));
+    assert_eq!([mean(6), mean(21), mean(0)].map(f64::to_bits), [9.0, 12.0, 0.0_f64].map(f64::to_bits));
 }
 
 /// A baseline's mean of the maxima as bits: two knots, with these sums of one sequence.

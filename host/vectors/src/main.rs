@@ -16,36 +16,59 @@ use std::path::Path;
 use std::process::ExitCode;
 use words::{file, open_file, Case, Reader};
 
-/// One recorded file: its name, its magic word, its cases, and how one case is replayed.
+/// One recorded file: its name, the most bytes it may have, its magic word, its cases, and how one
+/// case is replayed.
 struct Recorded {
     name: &'static str,
+    most: usize,
     magic: [u8; 4],
     cases: fn() -> Vec<Case>,
     replay: fn(&mut Reader) -> Result<(), String>,
 }
 
 const FILES: [Recorded; 6] = [
-    Recorded { name: "priors.bin", magic: *b"TPP1", cases: priors::record, replay: priors::replay },
+    Recorded {
+        name: "priors.bin",
+        most: 32_768,
+        magic: *b"TPP1",
+        cases: priors::record,
+        replay: priors::replay,
+    },
     Recorded {
         name: "calls.bin",
+        most: 65_536,
         magic: *b"TPC1",
         cases: || calls::record(sample::call_lists()),
         replay: |reader| calls::replay(reader, &limits::SMALL),
     },
     Recorded {
         name: "large.bin",
+        most: 16_384,
         magic: *b"TPL1",
         cases: || calls::record(sample::large_lists()),
         replay: |reader| calls::replay(reader, &limits::LARGE),
     },
-    Recorded { name: "altered.bin", magic: *b"TPA1", cases: altered::record, replay: altered::replay },
+    Recorded {
+        name: "altered.bin",
+        most: 65_536,
+        magic: *b"TPA1",
+        cases: altered::record,
+        replay: altered::replay,
+    },
     Recorded {
         name: "readings.bin",
+        most: 98_304,
         magic: *b"TPR1",
         cases: || calls::record(sample::reading_lists()),
         replay: |reader| calls::replay(reader, &limits::SMALL),
     },
-    Recorded { name: "training.bin", magic: *b"TPT1", cases: training::record, replay: training::replay },
+    Recorded {
+        name: "training.bin",
+        most: 81_920,
+        magic: *b"TPT1",
+        cases: training::record,
+        replay: training::replay,
+    },
 ];
 
 fn main() -> ExitCode {
@@ -67,6 +90,7 @@ fn main() -> ExitCode {
 fn record(directory: &Path) -> Result<(), String> {
     for recorded in FILES {
         let bytes = file(recorded.magic, (recorded.cases)());
+        limits::within(recorded.name, bytes.len(), recorded.most)?;
         std::fs::write(directory.join(recorded.name), bytes)
             .map_err(|error| format!("{}: {}", recorded.name, error))?;
     }
