@@ -3,7 +3,7 @@
 //! what was never seen. One drawing is for a desk and one for a telephone; both are plain SVG.
 
 use crate::day::Day;
-use crate::usual::{spread, Usual};
+use crate::usual::{spread, Usual, Why};
 use crate::watched::{Judged, LeftOut, Place, Reading, Watched};
 use crate::words::NO_FIGURE;
 use std::fmt::Write;
@@ -207,7 +207,8 @@ impl Frame<'_> {
                 usual = (length, self.watched.usual(length));
             }
             let known = usual.1.figures.as_ref().map(figure.usual);
-            let judged = known.filter(|_| !matches!(reading.judged, Judged::Not(_)));
+            let held = |judged: &Judged| !matches!(judged, Judged::Not(why) if *why != Why::CarriedOn);
+            let judged = known.filter(|_| held(&reading.judged));
             let point = Point {
                 x: self.x(index),
                 value,

@@ -73,6 +73,7 @@ fn judgement(place: &Place) -> (&'static str, &'static str) {
             Judged::Not(Why::OneKnot) => ("not judged", "one knot"),
             Judged::Not(Why::TooFar) => ("not judged", "far past the last knot"),
             Judged::Not(Why::NoSpread) => ("not judged", "no usable spread"),
+            Judged::Not(Why::CarriedOn) => ("not judged", "past the last knot"),
             Judged::Not(Why::NothingWatched) => ("not judged", "no node that has a prior"),
         },
     }

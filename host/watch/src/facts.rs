@@ -78,18 +78,12 @@ pub fn warnings(day: &Day, watched: &Watched) -> Vec<String> {
         warnings.extend(training_warning(trained));
         warnings.extend(knot_warning(day, watched, trained));
     }
-    let Tally { unread, by_one_figure, .. } = watched.tally();
+    let Tally { unread, .. } = watched.tally();
     if unread > 0 {
         warnings.push(format!(
             "all paths count and there are many, so {} of them are not read one by one: past path {} \
              the readings lie apart, and each covers the paths before it",
             unread, EVERY
-        ));
-    }
-    if by_one_figure > 0 {
-        warnings.push(format!(
-            "at {} sum or maximum has no usable spread, and the other alone is judged",
-            number(by_one_figure, "reading")
         ));
     }
     let [endings, in_training] = watched.new_endings;
@@ -136,8 +130,8 @@ fn knot_warning(day: &Day, watched: &Watched, trained: &Trained) -> Option<Strin
         window => format!("the window, of {},", number(window as usize, "path")),
     };
     Some(format!(
-        "{} goes past the last knot, at length {}: from there mean and spread are carried on, up to {} \
-         times that length",
+        "{} goes past the last knot, at length {}: from there drift is looked for with mean and spread \
+         carried on, up to {} times that length, and what does not drift is not judged",
         what, last, FAR
     ))
 }

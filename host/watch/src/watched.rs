@@ -53,12 +53,14 @@ pub enum Judged {
 
 impl Reading {
     /// Judges statistics; `visits` are those of nodes with a prior in the window. One of the two
-    /// figures is enough to judge by.
+    /// figures is enough to find drift; that there is none needs both, and trained lengths.
     pub fn of(stats: KLDivergenceStats, visits: u64, usual: Usual, drift: f64) -> Reading {
         let unusable = if visits == 0 { Some(Why::NothingWatched) } else { usual.unusable };
         let (sum, maximum) = match (unusable, usual.figures) {
             (None, Some(figures)) => {
-                let maximum = if stats.number > 0 { hold(stats.maximum, figures.maximum) } else { Held::Not };
+                // Without a divergence there is no maximum, and nothing that could lie above.
+                let any = stats.number > 0;
+                let maximum = if any { hold(stats.maximum, figures.maximum) } else { Held::NotAbove };
                 (hold(stats.sum, figures.sum), maximum)
             }
             _ => (Held::Not, Held::Not),
@@ -67,7 +69,8 @@ impl Reading {
         let judged = match (unusable, above) {
             (Some(why), _) => Judged::Not(why),
             (None, Some(above)) if above > drift => Judged::Drift(above),
-            _ if (sum, maximum) == (Held::Not, Held::Not) => Judged::Not(Why::NoSpread),
+            _ if [sum, maximum].contains(&Held::Not) => Judged::Not(Why::NoSpread),
+            _ if usual.carried_on => Judged::Not(Why::CarriedOn),
             _ => Judged::Calm,
         };
         Reading { stats, sum, maximum, judged }
@@ -113,8 +116,6 @@ pub struct Tally {
     pub unjudged: usize,
     pub unread: usize,
     pub left_out: usize,
-    /// Readings that one figure alone is judged by.
-    pub by_one_figure: usize,
 }
 
 /// All that a report needs.
@@ -162,11 +163,7 @@ impl Watched {
         for place in &self.places {
             match place {
                 Place::Read(Reading { judged: Judged::Not(_), .. }) => tally.unjudged += 1,
-                Place::Read(reading) => {
-                    tally.judged += 1;
-                    let alone = reading.sum == Held::Not || reading.maximum == Held::Not;
-                    tally.by_one_figure += usize::from(alone && reading.stats.number > 0);
-                }
+                Place::Read(_) => tally.judged += 1,
                 Place::Unread => tally.unread += 1,
                 Place::LeftOut(_) => tally.left_out += 1,
             }
@@ -204,5 +201,55 @@ impl Watched {
         let mut parts: Vec<Part> = parts.into_values().map(placed).collect();
         parts.sort_by_key(|part| part.first);
         parts
+    }
+}
+
+#[cfg(test)]
+mod tests {
+    use super::{Judged, Reading};
+    use crate::usual::{Usual, Why};
+    use teakpool::{BaselineStats, KLDivergenceStats, MeanVariance};
+
+    /// Statistics with this sum and maximum, 0 for no divergence.
+    fn stats(sum: f64, maximum: f64) -> KLDivergenceStats {
+        KLDivergenceStats {
+            maximum: if maximum > 0.0 { maximum } else { f64::MIN },
+            minimum: if maximum > 0.0 { maximum } else { f64::MAX },
+            number: u64::from(maximum > 0.0),
+            sum,
+            sum_of_squares: 0.0,
+            sequence_length: 3,
+            skipped: 0,
+        }
+    }
+
+    /// Means of 2, and these variances of sum and maximum.
+    fn usual(sum: f64, maximum: f64) -> Usual {
+        let of = |variance: f64| MeanVariance { mean: 2.0, variance };
+        let (sum, maximum, none) = (of(sum), of(maximum), of(0.0));
+        let figures = BaselineStats { maximum, minimum: none, number: none, sum, sum_of_squares: none };
+        Usual { figures: Some(figures), unusable: None, carried_on: false }
+    }
+
+    fn judged(stats: KLDivergenceStats, usual: Usual) -> Judged {
+        Reading::of(stats, 1, usual, 3.0).judged
+    }
+
+    #[test]
+    fn a_figure_above_a_mean_without_a_spread_is_never_calm() {
+        assert_eq!(judged(stats(2.5, 2.1), usual(1.0, 1.0)), Judged::Calm);
+        assert_eq!(judged(stats(2.5, 2.1), usual(1.0, 0.0)), Judged::Not(Why::NoSpread));
+        assert_eq!(judged(stats(2.5, 2.1), usual(0.0, 1.0)), Judged::Not(Why::NoSpread));
+        assert_eq!(judged(stats(2.5, 2.0), usual(1.0, 0.0)), Judged::Calm);
+        assert_eq!(judged(stats(6.0, 2.1), usual(1.0, 0.0)), Judged::Drift(4.0));
+        // Without a divergence nothing lies above.
+        assert_eq!(judged(stats(0.0, 0.0), usual(1.0, f64::INFINITY)), Judged::Calm);
+    }
+
+    #[test]
+    fn what_is_carried_on_can_drift_but_is_never_calm() {
+        let carried_on = Usual { carried_on: true, ..usual(1.0, 1.0) };
+        assert_eq!(judged(stats(2.5, 2.1), carried_on), Judged::Not(Why::CarriedOn));
+        assert_eq!(judged(stats(6.0, 2.1), carried_on), Judged::Drift(4.0));
     }
 }

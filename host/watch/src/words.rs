@@ -143,8 +143,14 @@ fn reason(day: &Day, watched: &Watched, why: Unjudged) -> String {
             format!("no usable spread (over {} times the length of the last knot, {})", FAR, last)
         }
         Unjudged::Reading(Why::NoSpread) => {
-            "no usable spread (the training sequences are alike there, or have no divergence)".to_string()
+            "no usable spread of sum or maximum (the training sequences are alike there, or have no divergence)"
+                .to_string()
         }
+        Unjudged::Reading(Why::CarriedOn) => format!(
+            "past the last knot, at length {}: no drift is found by a mean and spread that are carried on, \
+             which is no all-clear",
+            last
+        ),
         Unjudged::Reading(Why::NothingWatched) => "no node that has a prior is in the window".to_string(),
         Unjudged::LeftOut(LeftOut::NeverSeen) => "left out, since it was never seen".to_string(),
         Unjudged::LeftOut(LeftOut::PastTables(address)) => format!(

@@ -11,7 +11,7 @@ use crate::progress::Steps;
 use crate::refused::told;
 use crate::stretches::Stretches;
 use crate::training::{train, Trained};
-use crate::usual::Usual;
+use crate::usual::{Usual, Why};
 use crate::watched::{Judged, LeftOut, Place, Reading, Watched};
 use std::collections::BTreeMap;
 use teakpool::{Address, Refusal, Tracker, ENTRY_BYTES, PLACE_BYTES};
@@ -133,7 +133,7 @@ impl Run<'_> {
         let usual = self.usual_at(stats.sequence_length);
         let reading = Reading::of(stats, self.counts.visits(), usual, self.day.drift);
         match reading.judged {
-            Judged::Calm => self.stretches.calm(index),
+            Judged::Calm | Judged::Not(Why::CarriedOn) => self.stretches.calm(index),
             Judged::Not(_) => self.stretches.unjudged(index),
             Judged::Drift(deviations) => {
                 if self.stretches.drift(index, deviations) {

@@ -198,19 +198,19 @@ fn what_is_not_judged_and_what_was_never_seen_stand_in_all_three() {
     let never_seen =
         "path 2 (line 11, <all day>), step 1, and 8 more paths up to path 26 (line 35, <all day>): \
                       1/7 goes on to 0/8, which its prior does not have";
-    for line in [not_judged, never_seen, "judged: 16 of 27 paths; 9 paths left out; 2 without a judgement"] {
+    for line in [not_judged, never_seen, "judged: 2 of 27 paths; 9 paths left out; 16 without a judgement"] {
         assert!(report.lines().any(|told| told.trim() == line), "{}\n{}", line, report);
         assert!(text(&page).contains(line), "{}", line);
     }
     let kinds = |kind: &str| figures(&cells).iter().filter(|row| row["judgement"] == kind).count();
-    assert_eq!((kinds("left out"), kinds("not judged"), kinds("calm") + kinds("drift")), (9, 2, 16));
+    assert_eq!((kinds("left out"), kinds("not judged"), kinds("calm") + kinds("drift")), (9, 16, 2));
     // A mark for each path in both panels of both drawings, and the hatching at the end.
     assert_eq!(page.matches("<path class=\"never-seen\"").count(), 9 * 4);
     let tag = "<rect class=\"unjudged\"";
     assert_eq!(page.matches(tag).count(), 4);
     let step = (1_000.0 - 64.0 - 16.0) / 27.0;
-    assert!(((number(&page, tag, "x") - 64.0) / step - 24.0).abs() < 0.01);
-    assert!((number(&page, tag, "width") / step - 3.0).abs() < 0.01);
+    assert!(((number(&page, tag, "x") - 64.0) / step - 3.0).abs() < 0.01);
+    assert!((number(&page, tag, "width") / step - 24.0).abs() < 0.01);
 }
 
 #[test]

@@ -74,6 +74,10 @@ fn the_exit_status_tells_drift_and_what_is_not_judged() {
     assert_eq!(status("calm", &trained("path 1/7 0/7\n")), Some(0));
     assert_eq!(status("drift", &format!("drift 0\n{}", trained("path 1/7 0/7\npath 1/7 0/7\n"))), Some(3));
     assert_eq!(status("never_seen", &trained("path 1/7 0/8\n")), Some(3));
+    // Past the last knot, at length 2, nothing passes for calm.
+    let short = "path 1/7 0/7\npath 1/7 0/9\n";
+    assert_eq!(status("trained", &trained(short)), Some(0));
+    assert_eq!(status("carried_on", &trained(&short.repeat(2))), Some(4));
     assert_eq!(status("far", &trained(&"path 1/7 0/7\npath 1/7 0/9\n".repeat(9))), Some(4));
     assert_eq!(status("untrained", "day\npath 1/7\n"), Some(4));
     assert_eq!(status("mistake", "day\n"), Some(1));
