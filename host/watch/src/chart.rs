@@ -3,7 +3,7 @@
 //! what was never seen. One drawing is for a desk and one for a telephone; both are plain SVG.
 
 use crate::day::Day;
-use crate::usual::{spread, Usual, Why};
+use crate::usual::{spread, Usual};
 use crate::watched::{Judged, LeftOut, Place, Reading, Watched};
 use crate::words::NO_FIGURE;
 use std::fmt::Write;
@@ -207,13 +207,12 @@ impl Frame<'_> {
                 usual = (length, self.watched.usual(length));
             }
             let known = usual.1.figures.as_ref().map(figure.usual);
-            let held = |judged: &Judged| !matches!(judged, Judged::Not(why) if *why != Why::CarriedOn);
-            let judged = known.filter(|_| held(&reading.judged));
+            let known_spread = known.filter(|_| usual.1.unusable.is_none());
             let point = Point {
                 x: self.x(index),
                 value,
                 mean: known.map(|known| known.mean).filter(|mean| mean.abs() < NO_FIGURE),
-                reach: judged.and_then(spread).map(|spread| self.day.drift * spread),
+                reach: known_spread.and_then(spread).map(|spread| self.day.drift * spread),
             };
             match points.last_mut().filter(|(column, _)| *column == self.column(index)) {
                 Some((_, last)) if last.value >= value => {}

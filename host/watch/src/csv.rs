@@ -68,12 +68,14 @@ fn judgement(place: &Place) -> (&'static str, &'static str) {
         Place::Read(reading) => match reading.judged {
             Judged::Calm => ("calm", ""),
             Judged::Drift(_) => ("drift", ""),
+            Judged::Often(_) => ("drift", "done more often than in the training"),
             Judged::Not(Why::NoBaseline) => ("not judged", "no training sequences"),
             Judged::Not(Why::OneSequence) => ("not judged", "one training sequence"),
             Judged::Not(Why::OneKnot) => ("not judged", "one knot"),
             Judged::Not(Why::TooFar) => ("not judged", "far past the last knot"),
             Judged::Not(Why::NoSpread) => ("not judged", "no usable spread"),
             Judged::Not(Why::CarriedOn) => ("not judged", "past the last knot"),
+            Judged::Not(Why::MoreOften) => ("not judged", "done more often than in the training"),
             Judged::Not(Why::NothingWatched) => ("not judged", "no node that has a prior"),
         },
     }

@@ -166,7 +166,8 @@ fn ends(bytes: &[u8]) -> bool {
                 // 'Nowhere' stands where there is nothing to find and all is judged.
                 let all = watched.verdict() == Verdict::NoDrift;
                 assert_eq!(text.contains("\n  nowhere: "), all, "{}", text);
-                assert_eq!(all, watched.stretches.is_empty() && judged + unread == day.paths.len());
+                let none = watched.stretches.is_empty() && watched.over_day.is_empty();
+                assert_eq!(all, none && judged + unread == day.paths.len());
                 return true;
             }
         },

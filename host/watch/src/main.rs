@@ -24,6 +24,7 @@ mod progress;
 mod reader;
 mod refused;
 mod report;
+mod seldom;
 mod stretches;
 mod training;
 mod usual;

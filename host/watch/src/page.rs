@@ -155,8 +155,8 @@ fn drift(day: &Day, watched: &Watched) -> String {
         text.push_str(&format!("<p>and {}, none of them worse</p>\n", words::number(more, "more stretch")));
     }
     let parts = watched.unjudged();
-    let mut lines: Vec<String> =
-        parts.iter().take(SHOWN).map(|part| words::part(day, watched, part)).collect();
+    let mut lines = words::over_day(day, watched);
+    lines.extend(parts.iter().take(SHOWN).map(|part| words::part(day, watched, part)));
     if parts.len() > SHOWN {
         lines.push(format!("and {} are not judged", words::number(parts.len() - SHOWN, "more part")));
     }

@@ -71,7 +71,7 @@ fn row(text: &mut String, index: usize, reading: &Reading, watched: &Watched) ->
     };
     let sign = match judged {
         Judged::Calm => "",
-        Judged::Drift(_) => " *",
+        Judged::Drift(_) | Judged::Often(_) => " *",
         Judged::Not(_) => " ?",
     };
     let sum = beside(stats.sum, figures.map(|figures| figures.sum), *sum);
@@ -94,6 +94,7 @@ fn drift(text: &mut String, day: &Day, watched: &Watched) -> Written {
         0 => {}
         more => writeln!(text, "  and {}, none of them worse", words::number(more, "more stretch"))?,
     }
+    words::over_day(day, watched).iter().try_for_each(|line| writeln!(text, "  {}", line))?;
     for part in watched.unjudged().iter().take(SHOWN) {
         writeln!(text, "  {}", words::part(day, watched, part))?;
     }

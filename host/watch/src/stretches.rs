@@ -2,6 +2,7 @@
 //! and do not drift; what is not judged does not end it, and its end is then not known.
 
 use crate::moved::Moved;
+use crate::seldom::Often;
 
 /// Drifting readings with fewer than this between them are one stretch.
 const GAP: usize = 5;
@@ -27,7 +28,11 @@ pub struct Stretch {
     pub end: End,
     pub worst: usize,
     pub deviations: f64,
+    /// The node that moved in the reading whose figures are furthest above, and how far that is.
     pub moved: Option<Moved>,
+    figures: f64,
+    /// What is done too often, where it is furthest above.
+    pub often: Option<Often>,
 }
 
 /// The stretches as the day goes by.
@@ -46,25 +51,32 @@ pub struct Stretches {
 }
 
 impl Stretches {
-    /// A reading drifts; true where it is the worst of its stretch so far.
-    pub fn drift(&mut self, index: usize, deviations: f64) -> bool {
+    /// A reading drifts.
+    pub fn drift(&mut self, index: usize, deviations: f64) {
         let maybe_earlier = std::mem::take(&mut self.after_unjudged);
         (self.calm, self.first_calm, self.first_unjudged) = (0, None, None);
         match self.list.last_mut().filter(|_| self.open) {
             Some(stretch) => {
                 stretch.last = index;
-                let worse = deviations > stretch.deviations;
-                if worse {
+                if deviations > stretch.deviations {
                     (stretch.worst, stretch.deviations) = (index, deviations);
                 }
-                worse
             }
             None => {
                 self.open = true;
                 let (first, last, worst, end) = (index, index, index, End::Over);
-                let stretch = Stretch { first, maybe_earlier, last, end, worst, deviations, moved: None };
-                self.list.push(stretch);
-                true
+                let (moved, figures, often) = (None, f64::MIN, None);
+                self.list.push(Stretch {
+                    first,
+                    maybe_earlier,
+                    last,
+                    end,
+                    worst,
+                    deviations,
+                    moved,
+                    figures,
+                    often,
+                });
             }
         }
     }
@@ -87,10 +99,23 @@ impl Stretches {
         self.first_unjudged.get_or_insert(index);
     }
 
-    /// What the node to look at is, for the worst reading of the last stretch.
-    pub fn look_at(&mut self, moved: Option<Moved>) {
+    /// True where figures are further above than any before in the last stretch.
+    pub fn further(&self, figures: f64) -> bool {
+        self.list.last().is_some_and(|stretch| figures > stretch.figures)
+    }
+
+    /// The node to look at, for figures of the last stretch that are so far above.
+    pub fn look_at(&mut self, moved: Option<Moved>, figures: f64) {
         if let Some(stretch) = self.list.last_mut() {
-            stretch.moved = moved;
+            (stretch.moved, stretch.figures) = (moved, figures);
+        }
+    }
+
+    /// Something is done too often in the last stretch.
+    pub fn often(&mut self, often: Often) {
+        if let Some(stretch) = self.list.last_mut() {
+            let before = stretch.often.filter(|before| before.deviations >= often.deviations);
+            stretch.often = before.or(Some(often));
         }
     }
 
@@ -122,9 +147,7 @@ mod tests {
             match letter {
                 '.' => stretches.calm(index),
                 '?' => stretches.unjudged(index),
-                digit => {
-                    stretches.drift(index, f64::from(digit.to_digit(10).expect("a digit")));
-                }
+                digit => stretches.drift(index, f64::from(digit.to_digit(10).expect("a digit"))),
             }
         }
         let row = |stretch: super::Stretch| (stretch.first, stretch.last, stretch.end, stretch.worst);
@@ -162,9 +185,7 @@ mod tests {
                 match letter {
                     '.' => stretches.calm(index),
                     '?' => stretches.unjudged(index),
-                    _ => {
-                        stretches.drift(index, 4.0);
-                    }
+                    _ => stretches.drift(index, 4.0),
                 }
             }
             stretches.done()[0].maybe_earlier

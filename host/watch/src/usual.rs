@@ -34,6 +34,8 @@ pub enum Why {
     NoSpread,
     /// The length is past the last knot, and no drift is found by what is carried on.
     CarriedOn,
+    /// What good days do seldom is done more often, but not by enough to call it drift.
+    MoreOften,
     /// No node with a prior is in the window.
     NothingWatched,
 }
@@ -111,7 +113,7 @@ impl Trained {
     }
 }
 
-/// One figure of these; not finite where it is not at the middle knot. Of more paths only the
+/// One figure of these; not finite where it is not at both knots. Of more paths only the
 /// minimum is less, and no divergence is below 0.
 pub fn carried_figure(
     knots: [f64; 2],
@@ -119,7 +121,7 @@ pub fn carried_figure(
     length: f64,
     least_slope: f64,
 ) -> MeanVariance {
-    if !middle.variance.is_finite() {
+    if !(middle.variance.is_finite() && last.variance.is_finite()) {
         return MeanVariance { mean: f64::NAN, variance: f64::NAN };
     }
     let slope = ((last.mean - middle.mean) / (knots[1] - knots[0])).max(least_slope);

@@ -2,6 +2,7 @@
 
 use crate::known::Found;
 use crate::moved::Moved;
+use crate::seldom::Often;
 use crate::stretches::Stretch;
 use crate::training::Trained;
 use crate::usual::{hold, Held, Usual, Why};
@@ -48,6 +49,8 @@ pub enum Judged {
     Calm,
     /// Sum or maximum is by so many deviations above the mean.
     Drift(f64),
+    /// What good days do seldom is done more often, by so many deviations.
+    Often(f64),
     Not(Why),
 }
 
@@ -65,8 +68,7 @@ impl Reading {
             }
             _ => (Held::Not, Held::Not),
         };
-        let above = [sum, maximum].into_iter().filter_map(Held::deviations).reduce(f64::max);
-        let judged = match (unusable, above) {
+        let judged = match (unusable, above(sum, maximum)) {
             (Some(why), _) => Judged::Not(why),
             (None, Some(above)) if above > drift => Judged::Drift(above),
             _ if [sum, maximum].contains(&Held::Not) => Judged::Not(Why::NoSpread),
@@ -75,6 +77,26 @@ impl Reading {
         };
         Reading { stats, sum, maximum, judged }
     }
+
+    /// How far the figures lie above, where one can say so.
+    pub fn above(&self) -> Option<f64> {
+        above(self.sum, self.maximum)
+    }
+
+    /// Judges by how often something is done too, where that is nearly drift, or is.
+    pub fn or_often(self, often: Option<Often>, drift: f64) -> Reading {
+        let judged = match (self.judged, often.map(|often| often.deviations)) {
+            (Judged::Drift(above), Some(often)) if above >= often => Judged::Drift(above),
+            (_, Some(often)) if often > drift => Judged::Often(often),
+            (Judged::Calm | Judged::Not(Why::CarriedOn), Some(_)) => Judged::Not(Why::MoreOften),
+            (judged, _) => judged,
+        };
+        Reading { judged, ..self }
+    }
+}
+
+fn above(sum: Held, maximum: Held) -> Option<f64> {
+    [sum, maximum].into_iter().filter_map(Held::deviations).reduce(f64::max)
 }
 
 /// What is told of the whole day.
@@ -125,6 +147,10 @@ pub struct Watched {
     pub places: Vec<Place>,
     pub stretches: Vec<Stretch>,
     pub found: Vec<Found>,
+    /// What is done more often over the whole day than in the training, so that it is drift or
+    /// nearly.
+    pub over_day: Vec<Often>,
+    pub over_day_drifts: bool,
     /// Paths of the day and of the training that end where the prior has no ending, and are added.
     pub new_endings: [usize; 2],
     /// The nodes with the greatest divergences after the last path, and how many more there are.
@@ -152,7 +178,8 @@ impl Watched {
     pub fn verdict(&self) -> Verdict {
         match self.tally() {
             _ if !(self.stretches.is_empty() && self.found.is_empty()) => Verdict::Drift,
-            Tally { unjudged: 0, left_out: 0, .. } => Verdict::NoDrift,
+            _ if self.over_day_drifts => Verdict::Drift,
+            Tally { unjudged: 0, left_out: 0, .. } if self.over_day.is_empty() => Verdict::NoDrift,
             _ => Verdict::NotAllJudged,
         }
     }

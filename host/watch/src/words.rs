@@ -1,8 +1,9 @@
 //! What the report and the page say in the same words.
 
 use crate::day::{Day, MAX_ENTRIES};
-use crate::known::{Found, NeverSeen};
+use crate::known::{Found, NeverSeen, Odd};
 use crate::moved::{Moved, Share};
+use crate::seldom::Often;
 use crate::stretches::{End, Stretch};
 use crate::training::Trained;
 use crate::usual::{hold, Held, Why, FAR};
@@ -48,8 +49,11 @@ pub fn at(day: &Day, index: usize) -> String {
 
 /// What stands where no stretch is found.
 pub fn nowhere(day: &Day, watched: &Watched) -> String {
+    if watched.over_day_drifts {
+        return "in no single reading, but over the whole day".to_string();
+    }
     match (watched.tally(), watched.found.is_empty()) {
-        (Tally { unjudged: 0, left_out: 0, .. }, _) => {
+        (Tally { unjudged: 0, left_out: 0, .. }, _) if watched.over_day.is_empty() => {
             format!("nowhere: no reading is more than {} deviations above", day.drift)
         }
         (Tally { judged: 0, .. }, _) => "not known: nothing could be judged".to_string(),
@@ -78,15 +82,44 @@ pub fn stretch(day: &Day, watched: &Watched, stretch: &Stretch) -> Vec<String> {
         false => format!("from {}{} to {}{}", first, earlier, last, end),
     };
     let others = watched.trained.as_ref().and_then(|trained| trained.others);
-    let beside = match others.is_some_and(|others| stretch.deviations <= others.most) {
+    let by_figures = stretch.often.is_none();
+    let beside = match others.is_some_and(|others| by_figures && stretch.deviations <= others.most) {
         true => ", no further than a training sequence goes",
         false => "",
     };
     let worst = at(day, stretch.worst);
     let mut lines = vec![range];
     lines.push(format!("worst after {}: {:.1} deviations above{}", worst, stretch.deviations, beside));
+    lines.extend(stretch.often.map(|often| often_text(day, &often, "the last ")));
     lines.extend(stretch.moved.as_ref().map(|moved| format!("look at {}", moved_text(day, moved))));
     lines
+}
+
+/// What is done more often than in the training.
+fn often_text(day: &Day, often: &Often, the_last: &str) -> String {
+    let does = match often.what {
+        Odd::Ending { node: last } => format!("end at {}, where by the prior none ends", node(day, last)),
+        Odd::Unwatched => "meet no node that has a prior".to_string(),
+    };
+    format!(
+        "{} of {}{} {}; {} of {} in the training",
+        often.paths,
+        the_last,
+        number(often.of, "path"),
+        does,
+        often.in_training,
+        often.training
+    )
+}
+
+/// What is done more often over the whole day.
+pub fn over_day(day: &Day, watched: &Watched) -> Vec<String> {
+    let line = |often: &Often| {
+        let few = if often.deviations > day.drift { "" } else { ", too few to call it drift or calm" };
+        let what = often_text(day, often, "");
+        format!("over the whole day {}: {:.1} deviations above{}", what, often.deviations, few)
+    };
+    watched.over_day.iter().map(line).collect()
 }
 
 /// What was never seen, and where.
@@ -151,6 +184,11 @@ fn reason(day: &Day, watched: &Watched, why: Unjudged) -> String {
              which is no all-clear",
             last
         ),
+        Unjudged::Reading(Why::MoreOften) => {
+            "paths do more often than in the training what good days do seldom, too few to call it drift or \
+             calm"
+                .to_string()
+        }
         Unjudged::Reading(Why::NothingWatched) => "no node that has a prior is in the window".to_string(),
         Unjudged::LeftOut(LeftOut::NeverSeen) => "left out, since it was never seen".to_string(),
         Unjudged::LeftOut(LeftOut::PastTables(address)) => format!(

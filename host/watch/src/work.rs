@@ -9,6 +9,7 @@ use crate::mistakes::Problem;
 use crate::moved;
 use crate::progress::Steps;
 use crate::refused::told;
+use crate::seldom::{Rates, NEARLY};
 use crate::stretches::Stretches;
 use crate::training::{train, Trained};
 use crate::usual::{Usual, Why};
@@ -47,7 +48,7 @@ pub fn watch(day: &Day) -> Result<Watched, Problem> {
         usual: (0, Usual::UNKNOWN),
         stretches: Stretches::default(),
         found: BTreeMap::new(),
-        new_endings: 0,
+        rates: Rates::over(rate_window(day)),
         added: 0,
         unread: None,
     };
@@ -64,9 +65,31 @@ pub fn watch(day: &Day) -> Result<Watched, Problem> {
         }
     }
     let (nodes, more_nodes, skipped) = run.nodes().map_err(told_at(day.paths.len() - 1))?;
-    let new_endings = [run.new_endings, run.known.endings];
+    let new_endings = [run.rates.new_endings(), run.known.new_endings()];
+    let over_day = run.rates.over_day(&run.known, NEARLY * day.drift);
+    let over_day_drifts = over_day.iter().any(|often| often.deviations > day.drift);
     let (stretches, found) = (run.stretches.done(), run.found.into_values().collect());
-    Ok(Watched { trained, places, stretches, found, new_endings, nodes, more_nodes, skipped })
+    Ok(Watched {
+        trained,
+        places,
+        stretches,
+        found,
+        over_day,
+        over_day_drifts,
+        new_endings,
+        nodes,
+        more_nodes,
+        skipped,
+    })
+}
+
+/// Paths over which it is looked how often something is done: the window, or where all paths count
+/// as many as a training sequence has.
+fn rate_window(day: &Day) -> usize {
+    match day.window {
+        0 => day.training_paths().max(1),
+        window => window as usize,
+    }
 }
 
 /// A day as it is run.
@@ -81,7 +104,7 @@ struct Run<'a> {
     usual: (u64, Usual),
     stretches: Stretches,
     found: BTreeMap<known::NeverSeen, known::Found>,
-    new_endings: usize,
+    rates: Rates,
     /// Paths that are added.
     added: usize,
     /// The last path that is added, if it is not read, and how many there are since a reading.
@@ -97,8 +120,7 @@ impl Run<'_> {
         }
         self.counts.add(index);
         self.added += 1;
-        let steps = self.day.paths.steps(index);
-        self.new_endings += usize::from(self.known.new_ending(steps).is_some());
+        self.rates.add(self.known.odd(self.day.paths.steps(index)));
         if self.day.window == 0 && !self.added.is_multiple_of(1 + self.added / EVERY) {
             self.unread = Some(index);
             return Ok(Place::Unread);
@@ -131,18 +153,30 @@ impl Run<'_> {
         self.lent.reach(greatest);
         let stats = self.tracker.kl_div_stats(self.lent.tables(greatest), self.lent.priors())?;
         let usual = self.usual_at(stats.sequence_length);
-        let reading = Reading::of(stats, self.counts.visits(), usual, self.day.drift);
+        let drift = self.day.drift;
+        let often = self.rates.most(&self.known, NEARLY * drift);
+        let reading = Reading::of(stats, self.counts.visits(), usual, drift).or_often(often, drift);
         match reading.judged {
             Judged::Calm | Judged::Not(Why::CarriedOn) => self.stretches.calm(index),
             Judged::Not(_) => self.stretches.unjudged(index),
-            Judged::Drift(deviations) => {
-                if self.stretches.drift(index, deviations) {
-                    let moved = self.most_moved()?;
-                    self.stretches.look_at(moved);
+            Judged::Drift(deviations) | Judged::Often(deviations) => {
+                self.stretches.drift(index, deviations);
+                if let Some(often) = often.filter(|often| often.deviations > drift) {
+                    self.stretches.often(often);
                 }
+                self.look_at(reading.above().filter(|above| *above > drift))?;
             }
         }
         Ok(Place::Read(reading))
+    }
+
+    /// Notes the node to look at, where the figures are further above than before in the stretch.
+    fn look_at(&mut self, figures: Option<f64>) -> Result<(), Refusal> {
+        if let Some(figures) = figures.filter(|figures| self.stretches.further(*figures)) {
+            let moved = self.most_moved()?;
+            self.stretches.look_at(moved, figures);
+        }
+        Ok(())
     }
 
     /// What is usual at a length. A full window asks for one length over and over.

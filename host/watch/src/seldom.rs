@@ -1,0 +1,173 @@
+//! What good days do seldom: endings where the prior has none, and paths that meet no node with a
+//! prior. The divergences fall by both, so that more and more of them would pass for calm. How
+//! often the last paths do so is held against how often the training does, in deviations too.
+
+use crate::known::{Known, Odd};
+use std::collections::{BTreeMap, VecDeque};
+
+/// From this share of the deviations that are drift on, more is done than passes for calm.
+pub const NEARLY: f64 = 2.0 / 3.0;
+
+/// How often something is done, beside the training.
+#[derive(Debug, Clone, Copy, PartialEq)]
+pub struct Often {
+    pub what: Odd,
+    /// So many of so many paths do it.
+    pub paths: usize,
+    pub of: usize,
+    /// And so many of so many in the training.
+    pub in_training: usize,
+    pub training: usize,
+    pub deviations: f64,
+}
+
+/// What the paths do, as the day goes by.
+pub struct Rates {
+    /// Paths that are looked at together.
+    window: usize,
+    last: VecDeque<Option<Odd>>,
+    in_last: BTreeMap<Odd, usize>,
+    all: BTreeMap<Odd, usize>,
+    paths: usize,
+}
+
+impl Rates {
+    /// Over so many paths, 1 or more.
+    pub fn over(window: usize) -> Rates {
+        let (in_last, all) = (BTreeMap::new(), BTreeMap::new());
+        Rates { window, last: VecDeque::new(), in_last, all, paths: 0 }
+    }
+
+    /// Counts what a path does, and takes the one that leaves the window away.
+    pub fn add(&mut self, odd: Option<Odd>) {
+        self.paths += 1;
+        let leaving = if self.last.len() == self.window { self.last.pop_front() } else { None };
+        self.last.push_back(odd);
+        if let Some(odd) = odd {
+            *self.in_last.entry(odd).or_default() += 1;
+            *self.all.entry(odd).or_default() += 1;
+        }
+        if let Some(count) = leaving.flatten().and_then(|odd| self.in_last.get_mut(&odd)) {
+            *count -= 1;
+        }
+    }
+
+    /// What is done most above the training by the last paths, more than by this limit.
+    pub fn most(&self, known: &Known, limit: f64) -> Option<Often> {
+        above(known, &self.in_last, self.last.len(), limit).reduce(|one, other| {
+            if other.deviations > one.deviations {
+                other
+            } else {
+                one
+            }
+        })
+    }
+
+    /// What is done more often over all paths.
+    pub fn over_day(&self, known: &Known, limit: f64) -> Vec<Often> {
+        above(known, &self.all, self.paths, limit).collect()
+    }
+
+    /// Paths that end where the prior has no ending.
+    pub fn new_endings(&self) -> usize {
+        let endings = self.all.iter().filter(|(odd, _)| matches!(odd, Odd::Ending { .. }));
+        endings.map(|(_, count)| count).sum()
+    }
+}
+
+/// What is done more often than in the training, by more deviations than the limit.
+fn above<'a>(
+    known: &'a Known,
+    counts: &'a BTreeMap<Odd, usize>,
+    of: usize,
+    limit: f64,
+) -> impl Iterator<Item = Often> + 'a {
+    let often = move |(odd, paths): (&Odd, &usize)| {
+        let (what, paths, in_training, training) = (*odd, *paths, known.times(*odd), known.paths);
+        let deviations = deviations([paths, of], [in_training, training]);
+        Often { what, paths, of, in_training, training, deviations }
+    };
+    let more = |often: &Often| often.paths * often.training > often.in_training * often.of;
+    counts.iter().map(often).filter(move |often| more(often) && often.deviations > limit)
+}
+
+/// How far one share lies above another, each so many of so many. Shares differ by chance the less
+/// the nearer they are to 0 or 1; their arcs differ nearly alike everywhere.
+fn deviations(one: [usize; 2], other: [usize; 2]) -> f64 {
+    let arc = |[count, of]: [usize; 2]| ((count as f64 + 0.375) / (of as f64 + 0.75)).sqrt().asin();
+    let variance = |[_, of]: [usize; 2]| 0.25 / (of as f64 + 0.5);
+    (arc(one) - arc(other)) / (variance(one) + variance(other)).sqrt()
+}
+
+#[cfg(test)]
+mod tests {
+    use super::deviations;
+    use crate::reader::read;
+    use crate::usual::Why;
+    use crate::watched::{Judged, Verdict, Watched};
+    use crate::work::watch;
+
+    #[test]
+    fn deviations_grow_with_what_is_more_and_with_how_many_there_are() {
+        let at = |one, other| (10.0 * deviations(one, other)).round() / 10.0;
+        assert_eq!(at([1, 40], [1, 320]), 1.4);
+        assert_eq!(at([4, 40], [1, 320]), 3.2);
+        assert_eq!(at([12, 180], [1, 320]), 4.3);
+        assert_eq!(at([40, 40], [256, 320]), 4.4);
+        assert!(at([10, 40], [80, 320]).abs() < 0.2);
+    }
+
+    /// Eight sequences that differ, the first with one path more of an odd kind, and a day.
+    fn watched(odd: &str, day: &str) -> Watched {
+        let priors = "window 20\nprior 2/0 0 1/0 50 1/1 50\nprior 1/0 30 0/0 10\nprior 1/1 20 0/0 20\n";
+        let path = |number: usize| ["2/0 1/0", "2/0 1/1 0/0", "2/0 1/1", "2/0 1/0 0/0"][number % 4];
+        let paths = |from: usize| (from..from + 19).map(|n| format!("path {}\n", path(n * n + n / 3)));
+        let sequence = |number: usize| {
+            let last = if number == 0 { odd } else { "2/0 1/0" };
+            format!("sequence\n{}path {}\n", paths(5 * number).collect::<String>(), last)
+        };
+        let training: String = (0..8).map(sequence).collect();
+        let text = format!("{}{}day\n{}{}", priors, training, paths(10).collect::<String>(), day);
+        watch(&read(text.as_bytes()).expect("the day can be read")).expect("the day can be run")
+    }
+
+    fn repeated(odd: &str, count: usize) -> Verdict {
+        watched(odd, &format!("path {}\n", odd).repeat(count)).verdict()
+    }
+
+    #[test]
+    fn one_odd_path_of_the_training_does_not_hide_many() {
+        // Broken off at 2/0, and none of it watched.
+        for odd in ["2/0", "9/9 8/8"] {
+            assert_eq!(repeated(odd, 1), Verdict::NoDrift, "{}", odd);
+            assert_eq!(repeated(odd, 19), Verdict::Drift, "{}", odd);
+            let watched = watched(odd, &format!("path {}\n", odd).repeat(19));
+            let often = watched.stretches.iter().filter_map(|stretch| stretch.often).next_back();
+            let often = often.expect("a stretch by how often it is done");
+            assert_eq!((often.in_training, often.training, often.of), (1, 160, 20));
+            assert!(watched.readings().any(|(_, reading)| matches!(reading.judged, Judged::Often(_))));
+        }
+    }
+
+    #[test]
+    fn what_is_nearly_too_often_is_not_judged() {
+        let watched = watched("2/0", &"path 2/0\n".repeat(2));
+        let judged: Vec<Judged> = watched.readings().map(|(_, reading)| reading.judged).collect();
+        assert_eq!(judged[18..], [Judged::Calm, Judged::Calm, Judged::Not(Why::MoreOften)]);
+        assert_eq!(watched.verdict(), Verdict::NotAllJudged);
+    }
+
+    #[test]
+    fn a_few_now_and_then_are_found_over_the_whole_day() {
+        let calm = "path 2/0 1/0\npath 2/0 1/1\npath 2/0 1/1 0/0\n";
+        let every = |paths: usize| format!("{}path 2/0\n", calm.repeat(paths / 3));
+        assert!(watched("2/0", &every(22)).over_day.is_empty());
+        let nearly = watched("2/0", &every(22).repeat(8));
+        assert_eq!((nearly.over_day.len(), nearly.verdict()), (1, Verdict::NotAllJudged));
+        assert_eq!(nearly.tally().unjudged, 0);
+        let watched = watched("2/0", &every(10).repeat(20));
+        assert!(watched.stretches.iter().all(|stretch| stretch.often.is_none()));
+        assert_eq!(watched.verdict(), Verdict::Drift);
+        assert_eq!((watched.over_day[0].paths, watched.over_day[0].of), (20, 219));
+    }
+}
