@@ -3,6 +3,7 @@
 //! the statistics beside the baseline. `usage.txt` has the arguments and the exit statuses.
 
 mod arguments;
+mod by_node;
 mod chart;
 mod checks;
 mod counts;

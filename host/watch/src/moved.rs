@@ -9,6 +9,8 @@ use teakpool::{Address, Output, Refusal, Tracker};
 pub struct Moved {
     pub node: Address,
     pub divergence: f64,
+    /// Its mean divergence in the training at the same length, where that is known.
+    pub usual: Option<f64>,
     /// Children ascending, then the ending; none where the node is not in the window.
     pub shares: Vec<Share>,
 }
@@ -52,12 +54,8 @@ pub fn divergences(
     Ok((nodes, list.skipped))
 }
 
-/// A node with its shares.
-pub fn moved(tracker: &Tracker, day: &Day, (node, divergence): (Address, f64)) -> Result<Moved, Refusal> {
-    Ok(Moved { node, divergence, shares: shares(tracker, day, node)? })
-}
-
-fn shares(tracker: &Tracker, day: &Day, node: Address) -> Result<Vec<Share>, Refusal> {
+/// Where a node's paths went.
+pub fn shares(tracker: &Tracker, day: &Day, node: Address) -> Result<Vec<Share>, Refusal> {
     let Some(prior) = day.priors.get(&node) else {
         return Ok(Vec::new());
     };

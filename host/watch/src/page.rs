@@ -177,16 +177,21 @@ fn never_seen(day: &Day, watched: &Watched) -> String {
 /// The nodes with the greatest divergences.
 fn nodes(day: &Day, watched: &Watched) -> String {
     let node = |moved: &Moved| {
+        let [divergence, usual] = words::divergence(moved);
         format!(
-            "<article>\n<p><b>{}</b> <span class=\"figure\">{}</span> {}</p>\n{}</article>\n",
+            "<article>\n<p><b>{}</b> <span class=\"figure\">{}</span> <span class=\"quiet\">{}</span> \
+             {}</p>\n{}</article>\n",
             escaped(&words::node(day, moved.node)),
-            words::figure(moved.divergence),
+            divergence,
+            usual,
             escaped(&words::share(day, moved)),
             bars(day, moved)
         )
     };
     let nodes: String = watched.nodes.iter().map(node).collect();
-    format!("<div class=\"nodes\">\n{}</div>\n{}", nodes, list("others", &words::other_nodes(watched)))
+    let others = list("others", &words::other_nodes(watched));
+    let key = "<p class=\"note\">Divergence, its mean in the training, and what has moved most.</p>\n";
+    format!("{}<div class=\"nodes\">\n{}</div>\n{}", key, nodes, others)
 }
 
 /// Where a node's paths went, beside the prior; what has moved most comes first.

@@ -128,12 +128,17 @@ fn never_seen(text: &mut String, day: &Day, watched: &Watched) -> Written {
 
 /// The divergences by node, greatest first.
 fn nodes(text: &mut String, day: &Day, watched: &Watched) -> Written {
-    writeln!(text, "\nBy node, {}: divergence and what has moved most", words::when(day, watched))?;
+    writeln!(
+        text,
+        "\nBy node, {}: divergence, its mean in the training, and what has moved most",
+        words::when(day, watched)
+    )?;
     let width = watched.nodes.iter().map(|moved| words::node(day, moved.node).chars().count()).max();
     let width = width.unwrap_or(0).max(12);
     for moved in &watched.nodes {
-        let (node, divergence) = (words::node(day, moved.node), words::figure(moved.divergence));
-        writeln!(text, "  {:<width$} {:>10}   {}", node, divergence, words::share(day, moved))?;
+        let [divergence, usual] = words::divergence(moved);
+        let (node, share) = (words::node(day, moved.node), words::share(day, moved));
+        writeln!(text, "  {:<width$} {:>10} {:>10}   {}", node, divergence, usual, share)?;
     }
     words::other_nodes(watched).iter().try_for_each(|line| writeln!(text, "  {}", line))
 }

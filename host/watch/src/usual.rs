@@ -172,6 +172,7 @@ mod tests {
             values: knots.iter().flat_map(values).collect(),
             greatest_index: 1,
             others: None,
+            by_node: None,
         }
     }
 

@@ -206,10 +206,19 @@ fn reason(day: &Day, watched: &Watched, why: Unjudged) -> String {
     }
 }
 
-/// A node, its divergence and what has moved most.
+/// A node, its divergence beside what is usual, and what has moved most.
 fn moved_text(day: &Day, moved: &Moved) -> String {
-    let divergence = figure(moved.divergence);
-    format!("node {}, divergence {}: {}", node(day, moved.node), divergence, share(day, moved))
+    let [divergence, usual] = divergence(moved);
+    let beside = match moved.usual {
+        Some(_) => format!("divergence {}, in the training {}", divergence, usual),
+        None => format!("the greatest divergence, {}", divergence),
+    };
+    format!("node {}, {}: {}", node(day, moved.node), beside, share(day, moved))
+}
+
+/// A node's divergence, and its mean in the training.
+pub fn divergence(moved: &Moved) -> [String; 2] {
+    [figure(moved.divergence), figure(moved.usual.unwrap_or(f64::NAN))]
 }
 
 /// What has moved most at a node.

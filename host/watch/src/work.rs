@@ -1,12 +1,13 @@
 //! Runs a day through the archive: trains the baseline, adds the paths one by one, reads the
 //! statistics after each and holds them against the baseline, and notes where they drift.
 
+use crate::by_node::ByNode;
 use crate::counts::Counts;
 use crate::day::{Day, MAX_ENTRIES};
 use crate::known::{self, Known};
 use crate::lent::Lent;
 use crate::mistakes::Problem;
-use crate::moved;
+use crate::moved::{self, Moved};
 use crate::progress::Steps;
 use crate::refused::told;
 use crate::seldom::{Rates, NEARLY};
@@ -187,19 +188,34 @@ impl Run<'_> {
         self.usual.1
     }
 
-    /// The node with the greatest divergence.
-    fn most_moved(&self) -> Result<Option<moved::Moved>, Refusal> {
+    /// The node to look at.
+    fn most_moved(&self) -> Result<Option<Moved>, Refusal> {
         let (nodes, _) = moved::divergences(&self.tracker, &self.lent, self.counts.greatest(), self.day)?;
-        nodes.first().map(|node| moved::moved(&self.tracker, self.day, *node)).transpose()
+        let most = match self.by_node() {
+            Some(by_node) => by_node.most_moved(&nodes, self.usual.0),
+            None => nodes.first().copied(),
+        };
+        most.map(|node| self.moved(node)).transpose()
+    }
+
+    fn by_node(&self) -> Option<&ByNode> {
+        self.trained.and_then(|trained| trained.by_node.as_ref())
+    }
+
+    /// A node with its shares, and what is usual for it at the length that was asked for last.
+    fn moved(&self, (node, divergence): (Address, f64)) -> Result<Moved, Refusal> {
+        let usual = self.by_node().map(|by_node| by_node.usual(node, self.usual.0).mean);
+        let shares = moved::shares(&self.tracker, self.day, node)?;
+        Ok(Moved { node, divergence, usual, shares })
     }
 
     /// The nodes with the greatest divergences, how many more there are, and how many have no
     /// prior.
-    fn nodes(&mut self) -> Result<(Vec<moved::Moved>, usize, u32), Refusal> {
+    fn nodes(&mut self) -> Result<(Vec<Moved>, usize, u32), Refusal> {
         let greatest = self.counts.greatest();
         self.lent.reach(greatest);
         let (nodes, skipped) = moved::divergences(&self.tracker, &self.lent, greatest, self.day)?;
-        let shown = nodes.iter().take(NODES).map(|node| moved::moved(&self.tracker, self.day, *node));
+        let shown = nodes.iter().take(NODES).map(|node| self.moved(*node));
         let more = nodes.len().saturating_sub(NODES);
         Ok((shown.collect::<Result<_, Refusal>>()?, more, skipped))
     }
