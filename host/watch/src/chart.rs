@@ -4,7 +4,7 @@
 
 use crate::day::Day;
 use crate::usual::{spread, Usual};
-use crate::watched::{Judged, LeftOut, Place, Reading, Watched};
+use crate::watched::{LeftOut, Reading, Unjudged, Watched};
 use crate::words::NO_FIGURE;
 use std::fmt::Write;
 use teakpool::{BaselineStats, MeanVariance};
@@ -249,14 +249,12 @@ impl Frame<'_> {
     /// Stretches, what is not judged, and what was never seen.
     fn shades(&self, svg: &mut String, top: f64) {
         let (mut unjudged, mut never_seen) = (vec![0; self.columns], vec![false; self.columns]);
-        // What has no reading of its own is as the reading before it.
+        // What was never seen is as the path before it.
         let mut not_judged = false;
-        for (index, place) in self.watched.places.iter().enumerate() {
-            match place {
-                Place::LeftOut(LeftOut::NeverSeen) => never_seen[self.column(index)] = true,
-                Place::LeftOut(_) | Place::Read(Reading { judged: Judged::Not(_), .. }) => not_judged = true,
-                Place::Read(_) => not_judged = false,
-                Place::Unread => {}
+        for (index, judgement) in self.watched.judgements().into_iter().enumerate() {
+            match judgement {
+                Some(Unjudged::LeftOut(LeftOut::NeverSeen)) => never_seen[self.column(index)] = true,
+                judgement => not_judged = judgement.is_some(),
             }
             unjudged[self.column(index)] |= u8::from(not_judged);
         }

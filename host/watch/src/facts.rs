@@ -45,12 +45,13 @@ fn baseline(watched: &Watched) -> String {
 
 /// How much of the day is judged.
 fn judged(watched: &Watched) -> String {
-    let Tally { judged, unjudged, unread, left_out, .. } = watched.tally();
-    let what = if unread > 0 { "reading" } else { "path" };
-    if unjudged + left_out == 0 {
-        return format!("judged: all {}", number(judged, what));
+    let Tally { judged, unjudged, left_out, .. } = watched.tally();
+    match (judged, unjudged + left_out) {
+        (1, 0) => return "judged: the only path".to_string(),
+        (judged, 0) => return format!("judged: all {}", number(judged, "path")),
+        _ => {}
     }
-    let mut text = format!("judged: {} of {}", judged, number(judged + unjudged + left_out, what));
+    let mut text = format!("judged: {} of {}", judged, number(judged + unjudged + left_out, "path"));
     if left_out > 0 {
         text.push_str(&format!("; {} left out", number(left_out, "path")));
     }

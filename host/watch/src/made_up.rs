@@ -134,7 +134,7 @@ fn one_knot_judges_the_first_path_alone() {
     let (verdict, lines) = where_it_drifts(Plan { rate: Some(50), ..GROSS }, 1);
     assert_eq!(verdict, Verdict::NotAllJudged);
     let said = [
-        "none found in the 1 reading judged",
+        "none found in the 1 path judged",
         "not judged from path 2 on: no usable spread (the training has one knot, at length 1)",
     ];
     assert_eq!(lines, said);

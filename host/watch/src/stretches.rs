@@ -14,8 +14,8 @@ pub enum End {
     Over,
     /// It is the day's last.
     DayEnds,
-    /// From the path with this index on nothing is judged for a while, or to the end of the day.
-    NotKnown(usize),
+    /// From the first of these indexes to the second nothing is judged.
+    NotKnown([usize; 2]),
 }
 
 /// A stretch of the day that drifts: path indexes, the worst of them, and the node to look at.
@@ -43,9 +43,11 @@ pub struct Stretches {
     open: bool,
     /// Readings behind it that are judged and do not drift.
     calm: usize,
-    /// The first path behind it that does not drift, and the first that is not judged.
+    /// The first path behind it that does not drift, and the first run that is not judged.
     first_calm: Option<usize>,
-    first_unjudged: Option<usize>,
+    first_unjudged: Option<[usize; 2]>,
+    /// That run is over.
+    run_over: bool,
     /// The path before this one was not judged.
     after_unjudged: bool,
 }
@@ -54,7 +56,7 @@ impl Stretches {
     /// A reading drifts.
     pub fn drift(&mut self, index: usize, deviations: f64) {
         let maybe_earlier = std::mem::take(&mut self.after_unjudged);
-        (self.calm, self.first_calm, self.first_unjudged) = (0, None, None);
+        (self.calm, self.first_calm, self.first_unjudged, self.run_over) = (0, None, None, false);
         match self.list.last_mut().filter(|_| self.open) {
             Some(stretch) => {
                 stretch.last = index;
@@ -88,15 +90,19 @@ impl Stretches {
         self.calm += 1;
         if self.open && self.calm == GAP {
             self.open = false;
-            let unjudged = self.first_unjudged.filter(|unjudged| Some(*unjudged) < self.first_calm);
+            let unjudged = self.first_unjudged.filter(|unjudged| Some(unjudged[0]) < self.first_calm);
             self.end(unjudged.map_or(End::Over, End::NotKnown));
         }
     }
 
     /// A path is not judged, or is left out.
     pub fn unjudged(&mut self, index: usize) {
-        self.after_unjudged = true;
-        self.first_unjudged.get_or_insert(index);
+        let goes_on = std::mem::replace(&mut self.after_unjudged, true);
+        match &mut self.first_unjudged {
+            None => self.first_unjudged = Some([index, index]),
+            Some(run) if goes_on && !self.run_over => run[1] = index,
+            Some(_) => self.run_over = true,
+        }
     }
 
     /// True where figures are further above than any before in the last stretch.
@@ -169,11 +175,14 @@ mod tests {
 
     #[test]
     fn what_is_not_judged_does_not_end_a_stretch() {
-        assert_eq!(stretches(".45???"), [(1, 2, End::NotKnown(3), 2)]);
+        assert_eq!(stretches(".45???"), [(1, 2, End::NotKnown([3, 5]), 2)]);
         assert_eq!(stretches(".45?????????6....."), [(1, 12, End::Over, 12)]);
-        assert_eq!(stretches(".45???......."), [(1, 2, End::NotKnown(3), 2)]);
+        assert_eq!(stretches(".45???......."), [(1, 2, End::NotKnown([3, 5]), 2)]);
+        assert_eq!(stretches(".45?"), [(1, 2, End::NotKnown([3, 3]), 2)]);
+        assert_eq!(stretches(".45?.??"), [(1, 2, End::NotKnown([3, 3]), 2)]);
+        assert_eq!(stretches("?.45??.???."), [(2, 3, End::NotKnown([4, 5]), 3)]);
         // Calm right behind it, but not for long enough.
-        assert_eq!(stretches(".45..???"), [(1, 2, End::NotKnown(5), 2)]);
+        assert_eq!(stretches(".45..???"), [(1, 2, End::NotKnown([5, 7]), 2)]);
         assert_eq!(stretches(".45..?....."), [(1, 2, End::Over, 2)]);
     }
 

@@ -118,26 +118,27 @@ pub enum Unjudged {
 }
 
 /// The paths that are not judged for one reason.
-#[derive(Debug, Clone, Copy, PartialEq, Eq)]
+#[derive(Debug, Clone, PartialEq, Eq)]
 pub struct Part {
     pub why: Unjudged,
     pub paths: usize,
-    /// Indexes of the first and the last of them.
-    pub first: usize,
+    /// Indexes of the first and last path of each run of them; of many runs the first.
+    pub runs: Vec<[usize; 2]>,
+    /// The index of the last of all.
     pub last: usize,
-    /// No other reading lies between the first and the last.
-    pub gapless: bool,
-    /// No other reading comes behind the last.
-    pub to_the_end: bool,
 }
 
-/// How many paths there are of each kind.
+/// Runs of a part that are kept.
+const RUNS: usize = 4;
+
+/// How many paths there are of each kind: judged, not judged or left out.
 #[derive(Debug, Clone, Copy, Default, PartialEq, Eq)]
 pub struct Tally {
     pub judged: usize,
     pub unjudged: usize,
-    pub unread: usize,
     pub left_out: usize,
+    /// Those that have no reading of their own, judged or not as the one that covers them.
+    pub unread: usize,
 }
 
 /// All that a report needs.
@@ -184,49 +185,59 @@ impl Watched {
         }
     }
 
+    /// For each path why it is not judged; an unread one is as the reading that covers it.
+    pub fn judgements(&self) -> Vec<Option<Unjudged>> {
+        // The last path that is added has a reading.
+        let mut covering = Some(Unjudged::Reading(Why::NothingWatched));
+        let judgement = |place: &Place| {
+            match place {
+                Place::LeftOut(why) => return Some(Unjudged::LeftOut(*why)),
+                Place::Read(Reading { judged: Judged::Not(why), .. }) => {
+                    covering = Some(Unjudged::Reading(*why))
+                }
+                Place::Read(_) => covering = None,
+                Place::Unread => {}
+            }
+            covering
+        };
+        let mut judgements: Vec<Option<Unjudged>> = self.places.iter().rev().map(judgement).collect();
+        judgements.reverse();
+        judgements
+    }
+
     /// How many paths there are of each kind.
     pub fn tally(&self) -> Tally {
         let mut tally = Tally::default();
-        for place in &self.places {
-            match place {
-                Place::Read(Reading { judged: Judged::Not(_), .. }) => tally.unjudged += 1,
-                Place::Read(_) => tally.judged += 1,
-                Place::Unread => tally.unread += 1,
-                Place::LeftOut(_) => tally.left_out += 1,
+        for judgement in self.judgements() {
+            match judgement {
+                None => tally.judged += 1,
+                Some(Unjudged::Reading(_)) => tally.unjudged += 1,
+                Some(Unjudged::LeftOut(_)) => tally.left_out += 1,
             }
         }
+        tally.unread = self.places.iter().filter(|place| matches!(place, Place::Unread)).count();
         tally
     }
 
     /// What is not judged, by its reason. What was never seen is a finding and stands elsewhere.
     pub fn unjudged(&self) -> Vec<Part> {
         let mut parts: BTreeMap<Unjudged, Part> = BTreeMap::new();
-        // Numbers of the first and last of a part among all that is read or left out.
-        let mut numbers: BTreeMap<Unjudged, [usize; 2]> = BTreeMap::new();
-        let mut number = 0;
-        for (index, place) in self.places.iter().enumerate() {
-            let why = match place {
-                Place::Unread | Place::LeftOut(LeftOut::NeverSeen) => continue,
-                Place::LeftOut(why) => Some(Unjudged::LeftOut(*why)),
-                Place::Read(Reading { judged: Judged::Not(why), .. }) => Some(Unjudged::Reading(*why)),
-                Place::Read(_) => None,
+        for (index, judgement) in self.judgements().into_iter().enumerate() {
+            let elsewhere = Unjudged::LeftOut(LeftOut::NeverSeen);
+            let Some(why) = judgement.filter(|why| *why != elsewhere) else {
+                continue;
             };
-            number += 1;
-            let Some(why) = why else { continue };
-            let (paths, first, last) = (0, index, index);
-            let part = Part { why, paths, first, last, gapless: false, to_the_end: false };
-            let part = parts.entry(why).or_insert(part);
+            let part = parts.entry(why).or_insert(Part { why, paths: 0, runs: Vec::new(), last: index });
+            let kept = part.runs.len();
+            match part.runs.last_mut().filter(|run| run[1] == part.last && part.last + 1 == index) {
+                Some(run) => run[1] = index,
+                None if kept < RUNS => part.runs.push([index, index]),
+                None => {}
+            }
             (part.paths, part.last) = (part.paths + 1, index);
-            numbers.entry(why).or_insert([number, number])[1] = number;
         }
-        let placed = |mut part: Part| {
-            let [first, last] = numbers[&part.why];
-            part.gapless = last - first + 1 == part.paths;
-            part.to_the_end = last == number;
-            part
-        };
-        let mut parts: Vec<Part> = parts.into_values().map(placed).collect();
-        parts.sort_by_key(|part| part.first);
+        let mut parts: Vec<Part> = parts.into_values().collect();
+        parts.sort_by_key(|part| part.runs[0]);
         parts
     }
 }

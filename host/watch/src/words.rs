@@ -58,10 +58,10 @@ pub fn nowhere(day: &Day, watched: &Watched) -> String {
         }
         (Tally { judged: 0, .. }, _) => "not known: nothing could be judged".to_string(),
         (Tally { judged, .. }, true) => {
-            format!("none found in the {} judged", number(judged, "reading"))
+            format!("none found in the {} judged", number(judged, "path"))
         }
         (Tally { judged, .. }, false) => {
-            format!("in no reading of the {} judged, but see what was never seen", judged)
+            format!("not in the {} judged, but see what was never seen", number(judged, "path"))
         }
     }
 }
@@ -73,11 +73,11 @@ pub fn stretch(day: &Day, watched: &Watched, stretch: &Stretch) -> Vec<String> {
     let end = match stretch.end {
         End::Over => String::new(),
         End::DayEnds => ", the end of the day".to_string(),
-        End::NotKnown(index) => {
-            format!(" at least: from path {} on it is not judged, and its end is not known", index + 1)
+        End::NotKnown(run) => {
+            format!(" at least: {} it is not judged, and its end is not known", range(day, run))
         }
     };
-    let range = match stretch.first == stretch.last {
+    let place = match stretch.first == stretch.last {
         true => format!("at {}{}{}", first, earlier.trim_end_matches(','), end),
         false => format!("from {}{} to {}{}", first, earlier, last, end),
     };
@@ -88,7 +88,7 @@ pub fn stretch(day: &Day, watched: &Watched, stretch: &Stretch) -> Vec<String> {
         false => "",
     };
     let worst = at(day, stretch.worst);
-    let mut lines = vec![range];
+    let mut lines = vec![place];
     lines.push(format!("worst after {}: {:.1} deviations above{}", worst, stretch.deviations, beside));
     lines.extend(stretch.often.map(|often| often_text(day, &often, "the last ")));
     lines.extend(stretch.moved.as_ref().map(|moved| format!("look at {}", moved_text(day, moved))));
@@ -150,14 +150,27 @@ pub fn found(day: &Day, found: &Found) -> String {
     }
 }
 
+/// Where a run of paths lies, from its first and last index.
+fn range(day: &Day, [first, last]: [usize; 2]) -> String {
+    match (first + 1, last + 1) {
+        (first, last) if first == last => format!("at path {}", first),
+        (first, last) if last == day.paths.len() => format!("from path {} on", first),
+        (first, last) => format!("from path {} to path {}", first, last),
+    }
+}
+
 /// What is not judged, and why.
 pub fn part(day: &Day, watched: &Watched, part: &Part) -> String {
-    let (first, last) = (part.first + 1, part.last + 1);
-    let place = match part {
-        Part { gapless: true, to_the_end: true, .. } => format!("from path {} on", first),
-        Part { gapless: true, paths: 1, .. } => format!("at path {}", first),
-        Part { gapless: true, .. } => format!("from path {} to path {}", first, last),
-        Part { paths, .. } => format!("at {} from path {} to path {}", number(*paths, "path"), first, last),
+    let mut places: Vec<String> = part.runs.iter().map(|run| range(day, *run)).collect();
+    let shown: usize = part.runs.iter().map(|run| run[1] - run[0] + 1).sum();
+    if part.paths > shown {
+        let more = number(part.paths - shown, "more path");
+        places.push(format!("at {} up to path {}", more, part.last + 1));
+    }
+    let last = places.pop().unwrap_or_default();
+    let place = match places.is_empty() {
+        true => last,
+        false => format!("{} and {}", places.join(", "), last),
     };
     format!("not judged {}: {}", place, reason(day, watched, part.why))
 }

@@ -62,7 +62,7 @@ pub fn watch(day: &Day) -> Result<Watched, Problem> {
     if let Some(index) = run.unread {
         places[index] = run.read(index).map_err(told_at(index))?;
         if index + 1 < places.len() {
-            run.stretches.unjudged(index + 1);
+            [index + 1, places.len() - 1].into_iter().for_each(|left_out| run.stretches.unjudged(left_out));
         }
     }
     let (nodes, more_nodes, skipped) = run.nodes().map_err(told_at(day.paths.len() - 1))?;
@@ -229,7 +229,7 @@ mod tests {
     use crate::mistakes::Problem;
     use crate::reader::read;
     use crate::report::report;
-    use crate::watched::{LeftOut, Place, Reading, Verdict, Watched};
+    use crate::watched::{LeftOut, Place, Reading, Tally, Verdict, Watched};
     use teakpool::{Address, Tracker, ENTRY_BYTES, PLACE_BYTES};
 
     const KIT: &str = "tables squares 7\nprior 1/7 1 0/7 2 0/9 3\n";
@@ -345,6 +345,28 @@ mod tests {
     }
 
     #[test]
+    fn what_is_not_judged_is_told_path_by_path() {
+        // The last path alone, and others between paths that are judged.
+        let head = "window 1\nprior 1/7 1 0/7 2 0/9 3\nsequence\npath 1/7\npath 2/2\n\
+                    sequence\npath 1/7 0/7\npath 1/7\nday\n";
+        let told = |paths: &str| -> Vec<String> {
+            let letter = |letter: char| if letter == '.' { "path 1/7\n" } else { "path 2/2\n" };
+            let day = format!("drift 1e9\n{}{}", head, paths.chars().map(letter).collect::<String>());
+            lines(&day, "not judged ").into_iter().filter(|line| line.starts_with("not judged")).collect()
+        };
+        let why = "no node that has a prior is in the window";
+        assert_eq!(told("...?"), [format!("not judged at path 4: {}", why)]);
+        assert_eq!(told("..??"), [format!("not judged from path 3 on: {}", why)]);
+        let said = format!("not judged at path 2 and from path 4 to path 5: {}", why);
+        assert_eq!(told(".?.??."), [said]);
+        let said = format!(
+            "not judged at path 1, at path 3, at path 5, at path 7 and at 3 more paths up to path 12: {}",
+            why
+        );
+        assert_eq!(told("?.?.?.?.?.??"), [said]);
+    }
+
+    #[test]
     fn a_reading_is_the_same_however_much_of_the_tables_is_lent() {
         let mut long = Lent::of(&day(include_str!("../../../days/example.txt")));
         long.reach(100_000);
@@ -379,7 +401,9 @@ mod tests {
         // Each covers what lies before it: the last has all paths.
         let last = whole.readings().next_back().expect("the last path is read").1;
         assert_eq!(last.stats.sequence_length as usize, paths);
-        assert_eq!(whole.tally().unread, paths - read.len());
+        let Tally { judged, unjudged, left_out, unread } = whole.tally();
+        assert_eq!((unread, judged + unjudged + left_out), (paths - read.len(), paths));
+        assert_eq!(whole.unjudged().iter().map(|part| part.paths).sum::<usize>(), unjudged);
         // With a window every path is read.
         assert_eq!(watched(&format!("window 9\n{}", day)).tally().unread, 0);
     }

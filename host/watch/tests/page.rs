@@ -194,7 +194,7 @@ fn what_is_not_judged_and_what_was_never_seen_stand_in_all_three() {
     let Run { status, report, page, figures: cells } = run("part", &part_judged());
     assert_eq!(status, Some(3));
     let not_judged =
-        "not judged from path 25 on: no usable spread (over 8 times the length of the last knot, 2)";
+        "not judged at path 25 and at path 27: no usable spread (over 8 times the length of the last knot, 2)";
     let never_seen =
         "path 2 (line 11, <all day>), step 1, and 8 more paths up to path 26 (line 35, <all day>): \
                       1/7 goes on to 0/8, which its prior does not have";
