@@ -5,7 +5,7 @@
 use crate::day::Day;
 use crate::usual::{spread, Usual};
 use crate::watched::{LeftOut, Reading, Unjudged, Watched};
-use crate::words::NO_FIGURE;
+use crate::words::{NO_FIGURE, SHOWN};
 use std::fmt::Write;
 use teakpool::{BaselineStats, MeanVariance};
 
@@ -348,8 +348,8 @@ impl Frame<'_> {
     /// The marks as numbered lines; their texts stand below the picture.
     fn marks(&self, svg: &mut String) {
         let mut last = f64::MIN;
-        for (number, (index, _)) in (1..).zip(&self.day.marks) {
-            let x = self.edge(*index as f64);
+        for (number, marks) in (1..).zip(self.day.marks_by_place()).take(SHOWN) {
+            let x = self.edge(marks[0].0 as f64);
             if x - last < self.size.apart {
                 continue;
             }

@@ -1,6 +1,6 @@
 //! A recorded day: its settings, priors, names, training sequences, paths and marks.
 
-use std::collections::{BTreeMap, HashSet};
+use std::collections::BTreeMap;
 use teakpool::Address;
 
 /// The format, as the help and the example's first lines have it.
@@ -44,7 +44,7 @@ impl TableRule {
         match self {
             TableRule::Gamma => MAX_LAST as u64,
             TableRule::Squares(last) => *last as u64,
-            TableRule::Numbers { g, .. } => g.values.len() as u64 - 1,
+            TableRule::Numbers { g, .. } => (g.values.len() as u64).saturating_sub(1),
         }
     }
 }
@@ -84,16 +84,6 @@ impl Paths {
     /// The steps of each path.
     pub fn iter(&self) -> impl Iterator<Item = &[Address]> {
         (0..self.len()).map(|index| self.steps(index))
-    }
-
-    /// Entries that a book needs for all of them: nodes and transitions.
-    pub fn entries(&self) -> usize {
-        let mut listed: HashSet<(Address, Option<Address>)> = HashSet::new();
-        for steps in self.iter() {
-            listed.extend(steps.iter().map(|step| (*step, None)));
-            listed.extend(steps.windows(2).map(|pair| (pair[0], Some(pair[1]))));
-        }
-        listed.len()
     }
 }
 
@@ -150,6 +140,11 @@ impl Day {
     /// Paths of each training sequence; 0 where there are none to train with.
     pub fn training_paths(&self) -> usize {
         self.sequences.first().map_or(0, Paths::len)
+    }
+
+    /// The marks by their places: those that stand before one path belong together.
+    pub fn marks_by_place(&self) -> impl Iterator<Item = &[(usize, String)]> {
+        self.marks.chunk_by(|one, other| one.0 == other.0)
     }
 
     /// The mark that the path with this index stands under.

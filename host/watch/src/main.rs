@@ -20,6 +20,7 @@ mod mistakes;
 mod moved;
 mod others;
 mod page;
+mod plain;
 mod priors;
 mod progress;
 mod reader;

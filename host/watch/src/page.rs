@@ -13,6 +13,8 @@ use crate::words::{self, SHOWN};
 const STYLE: &str = include_str!("page.css");
 /// A day of more paths has several in one place of the smaller drawing.
 const MANY: usize = 300;
+/// Marks at one place that are shown; more are counted.
+const AT_ONE_PLACE: usize = 5;
 /// Ways out of a node that are shown; more are counted.
 const WAYS: usize = 6;
 
@@ -120,16 +122,30 @@ fn course(day: &Day, watched: &Watched) -> String {
     format!("<ul class=\"keys\">\n{}</ul>\n{}{}{}{}", keys, wide, narrow, columns, marks(day))
 }
 
+/// The texts of marks at one place; of many the first.
+fn texts(marks: &[(usize, String)]) -> String {
+    let texts: Vec<&str> = marks.iter().take(AT_ONE_PLACE).map(|(_, text)| &text[..]).collect();
+    match marks.len().saturating_sub(AT_ONE_PLACE) {
+        0 => texts.join("; "),
+        more => format!("{}; and {}", texts.join("; "), words::number(more, "more mark")),
+    }
+}
+
 /// The texts of the marks, numbered as in the picture.
 fn marks(day: &Day) -> String {
     if day.marks.is_empty() {
         return String::new();
     }
-    let item = |(index, text): &(usize, String)| {
-        format!("<li>{} <span class=\"quiet\">from path {}</span></li>\n", escaped(text), index + 1)
+    let item = |marks: &[(usize, String)]| {
+        let from = match marks[0].0 < day.paths.len() {
+            true => format!("from path {}", marks[0].0 + 1),
+            false => "after the last path".to_string(),
+        };
+        let text = escaped(&texts(marks));
+        format!("<li>{} <span class=\"quiet\">{}</span></li>\n", text, from)
     };
-    let items: String = day.marks.iter().take(SHOWN).map(item).collect();
-    let more = match day.marks.len().saturating_sub(SHOWN) {
+    let items: String = day.marks_by_place().take(SHOWN).map(item).collect();
+    let more = match day.marks_by_place().skip(SHOWN).map(<[_]>::len).sum() {
         0 => String::new(),
         more => format!("<p class=\"note\">and {}</p>\n", words::number(more, "more mark")),
     };
@@ -261,5 +277,24 @@ mod tests {
         for tag in ["<b>\"", "<script", "<i>", "http:", "https:", "src=", "@import", "onload"] {
             assert!(!page.contains(tag), "{}", tag);
         }
+    }
+
+    #[test]
+    fn every_number_of_a_mark_has_its_text() {
+        let marks = |count: usize| (0..count).map(|number| format!("mark m{}\n", number)).collect::<String>();
+        let text = format!("day\n{}path 1/7\nmark noon\npath 1/7\nmark <home>\n", marks(25));
+        let day = read(text.as_bytes()).expect("the day can be read");
+        let page = page("a day", &day, &watch(&day).expect("the day can be run"));
+        let items: Vec<&str> = page.lines().filter(|line| line.contains("class=\"quiet\">")).collect();
+        assert!(items[0].contains("m0; m1; m2; m3; m4; and 20 more marks"), "{}", items[0]);
+        assert!(items[1].contains("noon <span class=\"quiet\">from path 2<"), "{}", items[1]);
+        assert!(items[2].contains("&lt;home&gt; <span class=\"quiet\">after the last path<"), "{}", items[2]);
+        assert_eq!(page.matches("<text class=\"mark\"").count(), 2 * 3);
+        // At many places the first twenty.
+        let many: String = (0..30).map(|number| format!("mark m{}\npath 1/7\n", number)).collect();
+        let day = read(format!("day\n{}", many).as_bytes()).expect("the day can be read");
+        let page = super::page("a day", &day, &watch(&day).expect("the day can be run"));
+        assert!(page.contains("and 10 more marks"));
+        assert!(!page.contains("\" y=\"14\">21</text>"));
     }
 }

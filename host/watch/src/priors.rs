@@ -3,6 +3,7 @@
 //! priors of a goko tree are made.
 
 use crate::day::{Day, MAX_LAST};
+use crate::words::number;
 use std::collections::BTreeMap;
 use std::fmt::Write;
 use teakpool::Address;
@@ -54,7 +55,8 @@ impl GoodDays {
         if !too_much.is_empty() {
             return Err(too_much);
         }
-        let mut text = format!("# Priors by the counts of {} paths; good days: {}\n", self.paths, self.days);
+        let paths = number(self.paths, "path");
+        let mut text = format!("# Priors by the counts of {}; good days: {}\n", paths, self.days);
         for (node, counts) in &self.nodes {
             // Writing to a String cannot fail.
             let _ = write!(text, "prior {} {}", node, counts.ends);

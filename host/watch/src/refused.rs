@@ -1,6 +1,7 @@
 //! What the archive refuses in a day, as the line to look at and what is wrong there. The reader
 //! has tested all that shows in a line; left over is what grows with the paths.
 
+use crate::checks::no_room;
 use crate::day::{Day, MAX_ENTRIES};
 use crate::mistakes::Problem;
 use teakpool::{Address, Refusal};
@@ -24,14 +25,7 @@ pub fn told(day: &Day, last_index: u64, line: usize) -> impl Fn(Refusal) -> Prob
 /// The prior is to blame where its counts alone leave no room for a path.
 fn past_table(day: &Day, last_index: u64, line: usize, node: Address) -> Problem {
     match day.priors.get(&node).filter(|prior| prior.total() >= last_index) {
-        Some(prior) => {
-            let text = format!(
-                "the counts of this prior come to {}, and the last index of the tables is {}",
-                prior.total(),
-                last_index
-            );
-            Problem { line: prior.line, text }
-        }
+        Some(prior) => Problem { line: prior.line, text: no_room(prior, last_index) },
         None => {
             let text = format!(
                 "the counts of {}, in its prior and in the paths up to this one, pass {}, \
