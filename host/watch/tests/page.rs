@@ -249,6 +249,26 @@ fn no_file_is_written_over_another() {
     assert_eq!(status(&["--html", &day, &day]), Some(2));
     assert_eq!(status(&["--csv", &format!("{}/./over.txt", folder), &day]), Some(2));
     assert_eq!(status(&["--csv", "same", "--html", "same", &day]), Some(2));
+    // By other names of the same file, also of one that is not there yet.
+    let other = |name: &str| format!("{}/over-{}", folder, name);
+    for name in ["link", "hard", "new", "new-link"] {
+        let _ = std::fs::remove_file(other(name));
+    }
+    std::os::unix::fs::symlink("over.txt", other("link")).expect("a link can be made");
+    std::fs::hard_link(&day, other("hard")).expect("a link can be made");
+    std::os::unix::fs::symlink("over-new", other("new-link")).expect("a link can be made");
+    assert_eq!(status(&["--html", &other("link"), &day]), Some(2));
+    assert_eq!(status(&["--csv", &other("hard"), &day]), Some(2));
+    assert_eq!(status(&["--csv", &other("new"), "--html", &other("new-link"), &day]), Some(2));
+    assert!(!std::fs::exists(other("new")).expect("the folder can be read"));
+    // The day as standard input, and the report's own file.
+    let open = || std::fs::File::options().read(true).append(true).open(&day).expect("it is there");
+    let mut piped = Command::new(env!("CARGO_BIN_EXE_watch"));
+    assert_eq!(piped.args(["--csv", &day, "-"]).stdin(open()).status().expect("it runs").code(), Some(2));
+    let mut report = Command::new(env!("CARGO_BIN_EXE_watch"));
+    report.args(["--csv", &other("hard"), "none"]).stdout(open());
+    assert_eq!(report.status().expect("it runs").code(), Some(2));
     assert_eq!(std::fs::read_to_string(&day).expect("it is there"), "day\npath 1/7\n");
+    assert_eq!(status(&["--csv", "/dev/null", "--html", "/dev/null", &day]), Some(4));
     assert_eq!(status(&["--csv", &format!("{}/none/figures.csv", folder), &day]), Some(1));
 }
