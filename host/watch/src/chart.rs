@@ -3,7 +3,7 @@
 //! what was never seen. One drawing is for a desk and one for a telephone; both are plain SVG.
 
 use crate::day::Day;
-use crate::usual::{spread, Usual};
+use crate::usual::{spread, UsualAt};
 use crate::watched::{LeftOut, Reading, Unjudged, Watched};
 use crate::words::{NO_FIGURE, SHOWN};
 use std::fmt::Write;
@@ -198,16 +198,14 @@ impl Frame<'_> {
     /// The readings of a figure, in a long day the greatest of each column.
     fn points(&self, figure: &Figure) -> Vec<Point> {
         let mut points: Vec<(usize, Point)> = Vec::new();
-        let mut usual = (0, Usual::UNKNOWN);
+        let mut usual_at = UsualAt::new(self.watched.trained.as_ref());
         for (index, reading) in self.watched.readings() {
             let (Some(value), length) = ((figure.value)(reading), reading.stats.sequence_length) else {
                 continue;
             };
-            if usual.0 != length {
-                usual = (length, self.watched.usual(length));
-            }
-            let known = usual.1.figures.as_ref().map(figure.usual);
-            let known_spread = known.filter(|_| usual.1.unusable.is_none());
+            let usual = usual_at.at(length);
+            let known = usual.figures.as_ref().map(figure.usual);
+            let known_spread = known.filter(|_| usual.unusable.is_none());
             let point = Point {
                 x: self.x(index),
                 value,

@@ -2,7 +2,7 @@
 //! in it: a spreadsheet would read 1/7 as a date.
 
 use crate::day::Day;
-use crate::usual::{spread, Held, Usual, Why};
+use crate::usual::{spread, Held, Usual, UsualAt, Why};
 use crate::watched::{Judged, LeftOut, Place, Reading, Watched};
 use crate::words::NO_FIGURE;
 use std::io::{Result, Write};
@@ -16,16 +16,10 @@ const COLUMNS: &str = "path,line,length,\
 /// Writes a row for each path.
 pub fn write(out: &mut impl Write, day: &Day, watched: &Watched) -> Result<()> {
     writeln!(out, "{}", COLUMNS)?;
-    let mut usual = (0, Usual::UNKNOWN);
+    let mut usual = UsualAt::new(watched.trained.as_ref());
     for (index, place) in watched.places.iter().enumerate() {
         let figures = match place {
-            Place::Read(reading) => {
-                let length = reading.stats.sequence_length;
-                if usual.0 != length {
-                    usual = (length, watched.usual(length));
-                }
-                figures(reading, usual.1)
-            }
+            Place::Read(reading) => figures(reading, usual.at(reading.stats.sequence_length)),
             Place::Unread | Place::LeftOut(_) => ",".repeat(11),
         };
         let (judgement, reason) = judgement(place);

@@ -12,6 +12,12 @@ pub const MAX_ENTRIES: usize = 16_384;
 pub const MAX_LAST: usize = 1_048_575;
 /// Knots that a baseline can have.
 pub const MAX_KNOTS: usize = 1_024;
+/// Nodes that priors can have, children of all of them, and children of one.
+pub const MAX_PRIORS: usize = 4_096;
+pub const MAX_PRIOR_CHILDREN: usize = 16_384;
+pub const MAX_CHILDREN: usize = 64;
+/// Paths that a tracker takes.
+pub const MAX_DAY_PATHS: usize = 16_777_216;
 
 /// A setting and the line it stands in.
 #[derive(Debug, Clone, Copy)]

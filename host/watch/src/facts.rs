@@ -72,8 +72,12 @@ fn others(day: &Day, watched: &Watched) -> Option<String> {
     })
 }
 
-/// What makes the judgement weaker than it looks.
+/// What makes the judgement weaker than it looks, a line each.
 pub fn warnings(day: &Day, watched: &Watched) -> Vec<String> {
+    weaker(day, watched).iter().map(|warning| format!("warning: {}", warning)).collect()
+}
+
+fn weaker(day: &Day, watched: &Watched) -> Vec<String> {
     let mut warnings = Vec::new();
     if let Some(trained) = &watched.trained {
         warnings.extend(training_warning(trained));

@@ -45,6 +45,11 @@ pub enum Odd {
     Unwatched,
 }
 
+/// The paths among these that end where the prior has no ending.
+pub fn endings(odd: &BTreeMap<Odd, usize>) -> usize {
+    odd.iter().filter(|(odd, _)| matches!(odd, Odd::Ending { .. })).map(|(_, count)| count).sum()
+}
+
 /// What is known of good days.
 pub struct Known<'a> {
     priors: &'a BTreeMap<Address, Prior>,
@@ -74,8 +79,7 @@ impl<'a> Known<'a> {
 
     /// Training paths that end where the prior has no ending.
     pub fn new_endings(&self) -> usize {
-        let endings = self.odd.iter().filter(|(odd, _)| matches!(odd, Odd::Ending { .. }));
-        endings.map(|(_, count)| count).sum()
+        endings(&self.odd)
     }
 
     /// What a path does that was never seen, each with its step.

@@ -118,35 +118,22 @@ fn where_it_drifts(plan: Plan, seed: usize) -> (Verdict, Vec<String>) {
     )
 }
 
-#[test]
-fn one_training_sequence_judges_nothing() {
-    let (verdict, lines) = where_it_drifts(Plan { sequences: 1, ..GROSS }, 1);
+/// Tests that not all of a day is judged, and what is said of it.
+fn not_all_judged(plan: Plan, said: [&str; 2]) {
+    let (verdict, lines) = where_it_drifts(plan, 1);
     assert_eq!(verdict, Verdict::NotAllJudged);
-    let said = [
-        "not known: nothing could be judged",
-        "not judged from path 1 on: no usable spread (there is one training sequence)",
-    ];
     assert_eq!(lines, said);
 }
 
 #[test]
-fn one_knot_judges_the_first_path_alone() {
-    let (verdict, lines) = where_it_drifts(Plan { rate: Some(50), ..GROSS }, 1);
-    assert_eq!(verdict, Verdict::NotAllJudged);
-    let said = [
-        "none found in the 1 path judged",
-        "not judged from path 2 on: no usable spread (the training has one knot, at length 1)",
-    ];
-    assert_eq!(lines, said);
-}
-
-#[test]
-fn no_training_judges_nothing() {
-    let (verdict, lines) = where_it_drifts(Plan { sequences: 0, ..GROSS }, 1);
-    assert_eq!(verdict, Verdict::NotAllJudged);
-    let said =
-        ["not known: nothing could be judged", "not judged from path 1 on: there are no training sequences"];
-    assert_eq!(lines, said);
+fn too_little_training_judges_little_or_nothing() {
+    let none = "not known: nothing could be judged";
+    let one_sequence = "not judged from path 1 on: no usable spread (there is one training sequence)";
+    not_all_judged(Plan { sequences: 1, ..GROSS }, [none, one_sequence]);
+    let no_training = "not judged from path 1 on: there are no training sequences";
+    not_all_judged(Plan { sequences: 0, ..GROSS }, [none, no_training]);
+    let one_knot = "not judged from path 2 on: no usable spread (the training has one knot, at length 1)";
+    not_all_judged(Plan { rate: Some(50), ..GROSS }, ["none found in the 1 path judged", one_knot]);
 }
 
 #[test]

@@ -6,7 +6,6 @@ use crate::chart::{chart, NARROW, WIDE};
 use crate::day::Day;
 use crate::facts;
 use crate::moved::{Moved, Share};
-use crate::report::worst;
 use crate::watched::{Verdict, Watched};
 use crate::words::{self, SHOWN};
 
@@ -75,15 +74,13 @@ fn head(name: &str, day: &Day, watched: &Watched) -> String {
         Verdict::Drift => "drifts",
         Verdict::NotAllJudged => "open",
     };
-    let warnings: Vec<String> =
-        facts::warnings(day, watched).iter().map(|warning| format!("warning: {}", warning)).collect();
     format!(
         "<header class=\"{}\">\n<p class=\"name\">The day {}</p>\n<h1>{}</h1>\n{}{}</header>\n",
         class,
         escaped(name),
         escaped(&heading(words::verdict(watched.verdict()))),
         list("facts", &facts::facts(day, watched)),
-        list("warnings", &warnings)
+        list("warnings", &facts::warnings(day, watched))
     )
 }
 
@@ -158,7 +155,7 @@ fn drift(day: &Day, watched: &Watched) -> String {
     if watched.stretches.is_empty() {
         text.push_str(&format!("<p>{}</p>\n", escaped(&words::nowhere(day, watched))));
     }
-    let (shown, more) = worst(&watched.stretches);
+    let (shown, more) = words::worst(&watched.stretches);
     for stretch in shown {
         let lines: String = words::stretch(day, watched, stretch)
             .iter()
@@ -167,27 +164,15 @@ fn drift(day: &Day, watched: &Watched) -> String {
         let bars = stretch.moved.as_ref().map(|moved| bars(day, moved)).unwrap_or_default();
         text.push_str(&format!("<article>\n{}{}</article>\n", lines, bars));
     }
-    if more > 0 {
-        text.push_str(&format!("<p>and {}, none of them worse</p>\n", words::number(more, "more stretch")));
-    }
-    let parts = watched.unjudged();
-    let mut lines = words::over_day(day, watched);
-    lines.extend(parts.iter().take(SHOWN).map(|part| words::part(day, watched, part)));
-    if parts.len() > SHOWN {
-        lines.push(format!("and {} are not judged", words::number(parts.len() - SHOWN, "more part")));
-    }
-    text + &list("parts", &lines)
+    text.extend(more.map(|more| format!("<p>{}</p>\n", escaped(&more))));
+    text + &list("parts", &words::below_stretches(day, watched))
 }
 
 fn never_seen(day: &Day, watched: &Watched) -> String {
-    let Some((title, found, more)) = words::never_seen(watched) else {
+    let Some((title, found)) = words::never_seen(day, watched) else {
         return String::new();
     };
-    let mut lines: Vec<String> = found.iter().map(|found| words::found(day, found)).collect();
-    if more > 0 {
-        lines.push(format!("and {} of it", words::number(more, "more kind")));
-    }
-    section("never-seen", &title, list("found", &lines))
+    section("never-seen", &title, list("found", &found))
 }
 
 /// The nodes with the greatest divergences.

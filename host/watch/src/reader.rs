@@ -3,7 +3,10 @@
 //! only because of an earlier one is not told again.
 
 use crate::checks;
-use crate::day::{Day, Numbers, Prior, Setting, TableRule, MAX_ENTRIES, MAX_LAST};
+use crate::day::{
+    Day, Numbers, Prior, Setting, TableRule, MAX_CHILDREN, MAX_ENTRIES, MAX_LAST, MAX_PRIORS,
+    MAX_PRIOR_CHILDREN,
+};
 use crate::mistakes::{Mistakes, Problem};
 use crate::plain::{is_obeyed, is_other_break};
 use crate::words::number;
@@ -15,9 +18,6 @@ use teakpool::Address;
 const MAX_STEPS: usize = 64;
 const MAX_SEQUENCES: usize = 64;
 const MAX_PATHS: usize = 65_536;
-const MAX_CHILDREN: usize = 64;
-const MAX_PRIORS: usize = 4_096;
-const MAX_PRIOR_CHILDREN: usize = 16_384;
 const MAX_WINDOW: u32 = 1_024;
 /// 2^40: table entries from index 1 on lie between this and its negative.
 const MAX_TABLE_ENTRY: f64 = 1_099_511_627_776.0;

@@ -2,7 +2,7 @@
 //! has tested all that shows in a line; left over is what grows with the paths.
 
 use crate::checks::no_room;
-use crate::day::{Day, MAX_ENTRIES};
+use crate::day::{Day, MAX_DAY_PATHS, MAX_ENTRIES};
 use crate::mistakes::Problem;
 use teakpool::{Address, Refusal};
 
@@ -10,7 +10,7 @@ use teakpool::{Address, Refusal};
 pub fn told(day: &Day, last_index: u64, line: usize) -> impl Fn(Refusal) -> Problem + '_ {
     move |refusal| {
         let text = match refusal {
-            Refusal::PathsFull => "a day has at most 16777216 paths".to_string(),
+            Refusal::PathsFull => format!("a day has at most {} paths", MAX_DAY_PATHS),
             Refusal::BookFull => format!(
                 "up to this path there are over {} nodes and transitions, more than a book holds",
                 MAX_ENTRIES

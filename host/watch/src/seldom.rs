@@ -2,7 +2,7 @@
 //! prior. The divergences fall by both, so that more and more of them would pass for calm. How
 //! often the last paths do so is held against how often the training does, in deviations too.
 
-use crate::known::{Known, Odd};
+use crate::known::{endings, Known, Odd};
 use std::collections::{BTreeMap, VecDeque};
 
 /// From this share of the deviations that are drift on, more is done than passes for calm.
@@ -70,8 +70,7 @@ impl Rates {
 
     /// Paths that end where the prior has no ending.
     pub fn new_endings(&self) -> usize {
-        let endings = self.all.iter().filter(|(odd, _)| matches!(odd, Odd::Ending { .. }));
-        endings.map(|(_, count)| count).sum()
+        endings(&self.all)
     }
 }
 

@@ -143,11 +143,11 @@ impl Stretches {
 
 #[cfg(test)]
 mod tests {
-    use super::{End, Stretches};
+    use super::{End, Stretch, Stretches};
 
-    /// First, last, end and worst of the stretches in a day: a digit drifts by as much, a dot is
-    /// calm, a question mark is not judged.
-    fn stretches(day: &str) -> Vec<(usize, usize, End, usize)> {
+    /// The stretches of a day: a digit drifts by as much, a dot is calm, a question mark is not
+    /// judged.
+    fn of(day: &str) -> Vec<Stretch> {
         let mut stretches = Stretches::default();
         for (index, letter) in day.chars().enumerate() {
             match letter {
@@ -156,8 +156,13 @@ mod tests {
                 digit => stretches.drift(index, f64::from(digit.to_digit(10).expect("a digit"))),
             }
         }
-        let row = |stretch: super::Stretch| (stretch.first, stretch.last, stretch.end, stretch.worst);
-        stretches.done().into_iter().map(row).collect()
+        stretches.done()
+    }
+
+    /// First, last, end and worst of each.
+    fn stretches(day: &str) -> Vec<(usize, usize, End, usize)> {
+        let row = |stretch: Stretch| (stretch.first, stretch.last, stretch.end, stretch.worst);
+        of(day).into_iter().map(row).collect()
     }
 
     #[test]
@@ -188,17 +193,7 @@ mod tests {
 
     #[test]
     fn it_may_have_begun_in_what_is_not_judged() {
-        let earlier = |day: &str| {
-            let mut stretches = Stretches::default();
-            for (index, letter) in day.chars().enumerate() {
-                match letter {
-                    '.' => stretches.calm(index),
-                    '?' => stretches.unjudged(index),
-                    _ => stretches.drift(index, 4.0),
-                }
-            }
-            stretches.done()[0].maybe_earlier
-        };
+        let earlier = |day: &str| of(day)[0].maybe_earlier;
         assert!(earlier("..??4"));
         assert!(!earlier("??.4"));
         assert!(!earlier("4?4"));

@@ -55,6 +55,29 @@ impl Usual {
     pub const UNKNOWN: Usual = Usual { figures: None, unusable: Some(Why::NoBaseline), carried_on: false };
 }
 
+/// What is usual at the length that was asked for last: a full window asks for one over and over.
+pub struct UsualAt<'a> {
+    trained: Option<&'a Trained>,
+    pub length: u64,
+    usual: Usual,
+}
+
+impl<'a> UsualAt<'a> {
+    /// Of a training, if there is one; nothing is asked for yet.
+    pub fn new(trained: Option<&'a Trained>) -> UsualAt<'a> {
+        UsualAt { trained, length: 0, usual: Usual::UNKNOWN }
+    }
+
+    /// What is usual at a length.
+    pub fn at(&mut self, length: u64) -> Usual {
+        if self.length != length {
+            let usual = self.trained.map_or(Usual::UNKNOWN, |trained| trained.usual(length));
+            (self.length, self.usual) = (length, usual);
+        }
+        self.usual
+    }
+}
+
 /// How a figure is held against what is usual.
 #[derive(Debug, Clone, Copy, PartialEq)]
 pub enum Held {

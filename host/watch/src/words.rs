@@ -1,6 +1,6 @@
 //! What the report and the page say in the same words.
 
-use crate::day::{Day, MAX_ENTRIES};
+use crate::day::{Day, MAX_DAY_PATHS, MAX_ENTRIES};
 use crate::known::{Found, NeverSeen, Odd};
 use crate::moved::{Moved, Share};
 use crate::seldom::Often;
@@ -66,6 +66,16 @@ pub fn nowhere(day: &Day, watched: &Watched) -> String {
     }
 }
 
+/// The worst stretches in the day's order, and a line for how many more there are.
+pub fn worst(stretches: &[Stretch]) -> (Vec<&Stretch>, Option<String>) {
+    let mut worst: Vec<&Stretch> = stretches.iter().collect();
+    worst.sort_by(|one, other| other.deviations.total_cmp(&one.deviations));
+    worst.truncate(SHOWN);
+    worst.sort_by_key(|stretch| stretch.first);
+    let more = stretches.len().checked_sub(SHOWN).filter(|more| *more > 0);
+    (worst, more.map(|more| format!("and {}, none of them worse", number(more, "more stretch"))))
+}
+
 /// A stretch: from where to where, its worst reading, and the node to look at.
 pub fn stretch(day: &Day, watched: &Watched, stretch: &Stretch) -> Vec<String> {
     let earlier = if stretch.maybe_earlier { ", or earlier," } else { "" };
@@ -112,8 +122,19 @@ fn often_text(day: &Day, often: &Often, the_last: &str) -> String {
     )
 }
 
+/// What is told below the stretches: what is done more often over the whole day, and what is not
+/// judged.
+pub fn below_stretches(day: &Day, watched: &Watched) -> Vec<String> {
+    let (mut lines, parts) = (over_day(day, watched), watched.unjudged());
+    lines.extend(parts.iter().take(SHOWN).map(|one| part(day, watched, one)));
+    if parts.len() > SHOWN {
+        lines.push(format!("and {} are not judged", number(parts.len() - SHOWN, "more part")));
+    }
+    lines
+}
+
 /// What is done more often over the whole day.
-pub fn over_day(day: &Day, watched: &Watched) -> Vec<String> {
+fn over_day(day: &Day, watched: &Watched) -> Vec<String> {
     let line = |often: &Often| {
         let few = if often.deviations > day.drift { "" } else { ", too few to call it drift or calm" };
         let what = often_text(day, often, "");
@@ -123,7 +144,7 @@ pub fn over_day(day: &Day, watched: &Watched) -> Vec<String> {
 }
 
 /// What was never seen, and where.
-pub fn found(day: &Day, found: &Found) -> String {
+fn found(day: &Day, found: &Found) -> String {
     let what = match found.what {
         NeverSeen::Child { node: parent, child } => {
             format!("{} goes on to {}, which its prior does not have", node(day, parent), node(day, child))
@@ -160,7 +181,7 @@ fn range(day: &Day, [first, last]: [usize; 2]) -> String {
 }
 
 /// What is not judged, and why.
-pub fn part(day: &Day, watched: &Watched, part: &Part) -> String {
+fn part(day: &Day, watched: &Watched, part: &Part) -> String {
     let mut places: Vec<String> = part.runs.iter().map(|run| range(day, *run)).collect();
     let shown: usize = part.runs.iter().map(|run| run[1] - run[0] + 1).sum();
     if part.paths > shown {
@@ -214,7 +235,7 @@ fn reason(day: &Day, watched: &Watched, why: Unjudged) -> String {
             day.capacity.map_or(MAX_ENTRIES, |capacity| capacity.value)
         ),
         Unjudged::LeftOut(LeftOut::PathsFull) => {
-            "left out, since a tracker takes 16777216 paths at most".to_string()
+            format!("left out, since a tracker takes {} paths at most", MAX_DAY_PATHS)
         }
     }
 }
@@ -271,9 +292,9 @@ pub fn deviations(value: Option<f64>) -> String {
     value.map_or("-".to_string(), |value| format!("{:+.1}", value))
 }
 
-/// What was never seen: how many paths that is, the commonest of it in the day's order, and how
-/// much more there is.
-pub fn never_seen(watched: &Watched) -> Option<(String, Vec<&Found>, usize)> {
+/// What was never seen: how many paths that is, and a line each for the commonest of it in the
+/// day's order.
+pub fn never_seen(day: &Day, watched: &Watched) -> Option<(String, Vec<String>)> {
     if watched.found.is_empty() {
         return None;
     }
@@ -282,11 +303,15 @@ pub fn never_seen(watched: &Watched) -> Option<(String, Vec<&Found>, usize)> {
         1 => "Never seen on a good day: 1 path, which is left out of the figures".to_string(),
         paths => format!("Never seen on a good day: {} paths, which are left out of the figures", paths),
     };
-    let mut found: Vec<&Found> = watched.found.iter().collect();
-    found.sort_by_key(|found| std::cmp::Reverse(found.paths));
-    found.truncate(SHOWN);
-    found.sort_by_key(|found| (found.first, found.step));
-    Some((title, found, watched.found.len().saturating_sub(SHOWN)))
+    let mut commonest: Vec<&Found> = watched.found.iter().collect();
+    commonest.sort_by_key(|found| std::cmp::Reverse(found.paths));
+    commonest.truncate(SHOWN);
+    commonest.sort_by_key(|found| (found.first, found.step));
+    let mut lines: Vec<String> = commonest.into_iter().map(|one| found(day, one)).collect();
+    if watched.found.len() > SHOWN {
+        lines.push(format!("and {} of it", number(watched.found.len() - SHOWN, "more kind")));
+    }
+    Some((title, lines))
 }
 
 /// When the last figures are read.

@@ -13,7 +13,7 @@ use crate::refused::told;
 use crate::seldom::{Rates, NEARLY};
 use crate::stretches::Stretches;
 use crate::training::{train, Trained};
-use crate::usual::{Usual, Why};
+use crate::usual::{UsualAt, Why};
 use crate::watched::{Judged, LeftOut, Place, Reading, Watched};
 use std::collections::BTreeMap;
 use teakpool::{Address, Refusal, Tracker, ENTRY_BYTES, PLACE_BYTES};
@@ -46,7 +46,7 @@ pub fn watch(day: &Day) -> Result<Watched, Problem> {
         tracker,
         counts: Counts::new(day, &day.paths, day.window),
         trained: trained.as_ref(),
-        usual: (0, Usual::UNKNOWN),
+        usual: UsualAt::new(trained.as_ref()),
         stretches: Stretches::default(),
         found: BTreeMap::new(),
         rates: Rates::over(rate_window(day)),
@@ -101,8 +101,7 @@ struct Run<'a> {
     tracker: Tracker<'a>,
     counts: Counts<'a>,
     trained: Option<&'a Trained>,
-    /// What is usual at the length that was asked for last.
-    usual: (u64, Usual),
+    usual: UsualAt<'a>,
     stretches: Stretches,
     found: BTreeMap<known::NeverSeen, known::Found>,
     rates: Rates,
@@ -153,7 +152,7 @@ impl Run<'_> {
         let greatest = self.counts.greatest();
         self.lent.reach(greatest);
         let stats = self.tracker.kl_div_stats(self.lent.tables(greatest), self.lent.priors())?;
-        let usual = self.usual_at(stats.sequence_length);
+        let usual = self.usual.at(stats.sequence_length);
         let drift = self.day.drift;
         let often = self.rates.most(&self.known, NEARLY * drift);
         let reading = Reading::of(stats, self.counts.visits(), usual, drift).or_often(often, drift);
@@ -180,19 +179,11 @@ impl Run<'_> {
         Ok(())
     }
 
-    /// What is usual at a length. A full window asks for one length over and over.
-    fn usual_at(&mut self, length: u64) -> Usual {
-        if let (Some(trained), true) = (self.trained, self.usual.0 != length) {
-            self.usual = (length, trained.usual(length));
-        }
-        self.usual.1
-    }
-
     /// The node to look at.
     fn most_moved(&self) -> Result<Option<Moved>, Refusal> {
         let (nodes, _) = moved::divergences(&self.tracker, &self.lent, self.counts.greatest(), self.day)?;
         let most = match self.by_node() {
-            Some(by_node) => by_node.most_moved(&nodes, self.usual.0),
+            Some(by_node) => by_node.most_moved(&nodes, self.usual.length),
             None => nodes.first().copied(),
         };
         most.map(|node| self.moved(node)).transpose()
@@ -204,7 +195,7 @@ impl Run<'_> {
 
     /// A node with its shares, and what is usual for it at the length that was asked for last.
     fn moved(&self, (node, divergence): (Address, f64)) -> Result<Moved, Refusal> {
-        let usual = self.by_node().map(|by_node| by_node.usual(node, self.usual.0).mean);
+        let usual = self.by_node().map(|by_node| by_node.usual(node, self.usual.length).mean);
         let shares = moved::shares(&self.tracker, self.day, node)?;
         Ok(Moved { node, divergence, usual, shares })
     }
