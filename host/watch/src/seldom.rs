@@ -5,8 +5,11 @@
 use crate::known::{endings, Known, Odd};
 use std::collections::{BTreeMap, VecDeque};
 
-/// From this share of the deviations that are drift on, more is done than passes for calm.
-pub const NEARLY: f64 = 2.0 / 3.0;
+/// From this share of the deviations that are drift on, what so many paths do so many times as
+/// often as in the training does not pass for calm.
+const NEARLY: f64 = 2.0 / 3.0;
+const NEARLY_PATHS: usize = 2;
+const NEARLY_TIMES: usize = 3;
 
 /// How often something is done, beside the training.
 #[derive(Debug, Clone, Copy, PartialEq)]
@@ -19,6 +22,20 @@ pub struct Often {
     pub in_training: usize,
     pub training: usize,
     pub deviations: f64,
+}
+
+impl Often {
+    /// True where it is done at least so many times as often as in the training.
+    fn is_times(&self, times: usize) -> bool {
+        self.paths * self.training >= times * self.in_training * self.of
+    }
+
+    /// True where it is drift, or nearly.
+    fn is_above(&self, drift: f64) -> bool {
+        let many = self.paths >= NEARLY_PATHS && self.is_times(NEARLY_TIMES);
+        let limit = if many { NEARLY * drift } else { drift };
+        self.deviations > limit
+    }
 }
 
 /// What the paths do, as the day goes by.
@@ -63,9 +80,9 @@ impl Rates {
         })
     }
 
-    /// What is done more often over all paths.
-    pub fn over_day(&self, known: &Known, limit: f64) -> Vec<Often> {
-        above(known, &self.all, self.paths, limit).collect()
+    /// What all paths together do so.
+    pub fn over_day(&self, known: &Known, drift: f64) -> Vec<Often> {
+        above(known, &self.all, self.paths, drift).collect()
     }
 
     /// Paths that end where the prior has no ending.
@@ -74,12 +91,12 @@ impl Rates {
     }
 }
 
-/// What is done more often than in the training, by more deviations than the limit.
+/// What is done more often than in the training, so that it is drift or nearly.
 fn above<'a>(
     known: &'a Known,
     counts: &'a BTreeMap<Odd, usize>,
     of: usize,
-    limit: f64,
+    drift: f64,
 ) -> impl Iterator<Item = Often> + 'a {
     let often = move |(odd, paths): (&Odd, &usize)| {
         let (what, paths, in_training, training) = (*odd, *paths, known.times(*odd), known.paths);
@@ -87,7 +104,7 @@ fn above<'a>(
         Often { what, paths, of, in_training, training, deviations }
     };
     let more = |often: &Often| often.paths * often.training > often.in_training * often.of;
-    counts.iter().map(often).filter(move |often| more(often) && often.deviations > limit)
+    counts.iter().map(often).filter(move |often| more(often) && often.is_above(drift))
 }
 
 /// How far one share lies above another, each so many of so many. Shares differ by chance the less
@@ -100,11 +117,13 @@ fn deviations(one: [usize; 2], other: [usize; 2]) -> f64 {
 
 #[cfg(test)]
 mod tests {
-    use super::deviations;
+    use super::{deviations, Often, Rates};
+    use crate::known::{Known, Odd};
     use crate::reader::read;
     use crate::usual::Why;
     use crate::watched::{Judged, Verdict, Watched};
     use crate::work::watch;
+    use cases::rng::Rng;
 
     #[test]
     fn deviations_grow_with_what_is_more_and_with_how_many_there_are() {
@@ -114,6 +133,54 @@ mod tests {
         assert_eq!(at([12, 180], [1, 320]), 4.3);
         assert_eq!(at([40, 40], [256, 320]), 4.4);
         assert!(at([10, 40], [80, 320]).abs() < 0.2);
+    }
+
+    #[test]
+    fn a_common_path_is_not_nearly_too_often_and_one_path_is_not() {
+        let above = |[paths, of]: [usize; 2], [in_training, training]: [usize; 2]| {
+            let deviations = deviations([paths, of], [in_training, training]);
+            let often = Often { what: Odd::Unwatched, paths, of, in_training, training, deviations };
+            often.is_above(3.0)
+        };
+        assert!(above([2, 40], [1, 320]) && above([3, 4], [1, 12]));
+        assert!(!above([1, 1], [1, 320]) && !above([15, 40], [64, 320]));
+        assert!(above([20, 40], [64, 320]));
+    }
+
+    /// Of a thousand good days of 260 paths, on which so many of a hundred end where the prior has
+    /// no ending, as in 320 training paths: how many are told as drift or never seen, and as nearly.
+    fn good_days(percent: usize) -> [usize; 2] {
+        let mut told = [0; 2];
+        for seed in 0..1_000 {
+            let mut random = Rng::new(seed);
+            let mut paths = |count: usize| -> String {
+                (0..count)
+                    .map(|_| if random.chance(percent) { "path 2/0\n" } else { "path 2/0 1/0\n" })
+                    .collect()
+            };
+            let text = format!("prior 2/0 0 1/0 1\nsequence\n{}day\n{}", paths(320), paths(260));
+            let day = read(text.as_bytes()).expect("the day can be read");
+            let (known, mut rates) = (Known::of(&day), Rates::over(40));
+            let mut most = f64::MIN;
+            for steps in day.paths.iter() {
+                if !known.never_seen(steps).is_empty() {
+                    most = f64::MAX;
+                    continue;
+                }
+                rates.add(known.odd(steps));
+                most = rates.most(&known, 3.0).map_or(most, |often| most.max(often.deviations));
+            }
+            most = rates.over_day(&known, 3.0).iter().map(|often| often.deviations).fold(most, f64::max);
+            told[0] += usize::from(most > 3.0);
+            told[1] += usize::from(most > 0.0 && most <= 3.0);
+        }
+        told
+    }
+
+    #[test]
+    fn good_days_are_seldom_told() {
+        // docs/REPORT.md has these numbers.
+        assert_eq!([1, 5, 20].map(good_days), [[42, 121], [25, 223], [35, 64]]);
     }
 
     /// Eight sequences that differ, the first with one path more of an odd kind, and a day.

@@ -10,7 +10,7 @@ use crate::mistakes::Problem;
 use crate::moved::{self, Moved};
 use crate::progress::Steps;
 use crate::refused::told;
-use crate::seldom::{Rates, NEARLY};
+use crate::seldom::Rates;
 use crate::stretches::Stretches;
 use crate::training::{train, Trained};
 use crate::usual::{UsualAt, Why};
@@ -67,7 +67,7 @@ pub fn watch(day: &Day) -> Result<Watched, Problem> {
     }
     let (nodes, more_nodes, skipped) = run.nodes().map_err(told_at(day.paths.len() - 1))?;
     let new_endings = [run.rates.new_endings(), run.known.new_endings()];
-    let over_day = run.rates.over_day(&run.known, NEARLY * day.drift);
+    let over_day = run.rates.over_day(&run.known, day.drift);
     let over_day_drifts = over_day.iter().any(|often| often.deviations > day.drift);
     let (stretches, found) = (run.stretches.done(), run.found.into_values().collect());
     Ok(Watched {
@@ -154,7 +154,7 @@ impl Run<'_> {
         let stats = self.tracker.kl_div_stats(self.lent.tables(greatest), self.lent.priors())?;
         let usual = self.usual.at(stats.sequence_length);
         let drift = self.day.drift;
-        let often = self.rates.most(&self.known, NEARLY * drift);
+        let often = self.rates.most(&self.known, drift);
         let reading = Reading::of(stats, self.counts.visits(), usual, drift).or_often(often, drift);
         match reading.judged {
             Judged::Calm | Judged::Not(Why::CarriedOn) => self.stretches.calm(index),
