@@ -21,6 +21,27 @@ pub struct ByNode {
     sequences: f64,
     /// For each node at each length the sum of the sequences' divergences, and of their squares.
     nodes: HashMap<Address, Vec<[f64; 2]>>,
+    ways: Ways,
+}
+
+/// How often training paths left each node, and where to; none for an ending.
+#[derive(Default)]
+struct Ways {
+    visits: HashMap<Address, u32>,
+    taken: HashMap<(Address, Option<Address>), u32>,
+}
+
+impl Ways {
+    fn of(day: &Day) -> Ways {
+        let mut ways = Ways::default();
+        for steps in day.sequences.iter().flat_map(|sequence| sequence.iter()) {
+            for (step, node) in steps.iter().enumerate().filter(|(_, node)| day.priors.contains_key(node)) {
+                *ways.visits.entry(*node).or_default() += 1;
+                *ways.taken.entry((*node, steps.get(step + 1).copied())).or_default() += 1;
+            }
+        }
+        ways
+    }
 }
 
 /// Numbers of the knots that are looked at: all of them, or some with the first and the last.
@@ -48,7 +69,13 @@ impl ByNode {
                 Ok(())
             })?;
         }
-        Ok(ByNode { lengths, sequences: f64::from(trained.sequences), nodes })
+        Ok(ByNode { lengths, sequences: f64::from(trained.sequences), nodes, ways: Ways::of(day) })
+    }
+
+    /// The share of the training's visits that left a node so; none where there are no visits.
+    pub fn share(&self, node: Address, child: Option<Address>) -> Option<f64> {
+        let taken = self.ways.taken.get(&(node, child)).copied().unwrap_or(0);
+        self.ways.visits.get(&node).map(|visits| f64::from(taken) / f64::from(*visits))
     }
 
     /// The node that has moved most: of those that have risen considerably above their mean the one
@@ -95,7 +122,9 @@ impl ByNode {
 
 #[cfg(test)]
 mod tests {
-    use super::{places, ByNode};
+    use super::{places, ByNode, Ways};
+    use crate::reader::read;
+    use crate::work::watch;
     use std::collections::HashMap;
     use teakpool::{Address, MeanVariance};
 
@@ -111,7 +140,7 @@ mod tests {
             (SMALL, vec![of(0.1, 0.3), of(0.5, 0.7)]),
             (TINY, vec![of(0.001, 0.001), of(0.001, 0.001)]),
         ]);
-        ByNode { lengths: vec![1, 11], sequences: 2.0, nodes }
+        ByNode { lengths: vec![1, 11], sequences: 2.0, nodes, ways: Ways::default() }
     }
 
     #[test]
@@ -142,5 +171,20 @@ mod tests {
         assert_eq!(places(3), [0, 1, 2]);
         let many = places(1_024);
         assert_eq!((many.len(), many[0], many[31]), (32, 0, 1_023));
+    }
+
+    #[test]
+    fn the_way_that_has_moved_is_held_against_the_training() {
+        // Good days never go to 0/9, which is common by the prior; the day ends at 1/7 more often.
+        let head = "drift 0\nprior 1/7 10 0/7 45 0/9 45\n";
+        let training = "sequence\npath 1/7 0/7\npath 1/7\nsequence\npath 1/7 0/7\npath 1/7 0/7\n";
+        let text = format!("{}{}day\npath 1/7\npath 1/7 0/7\n", head, training);
+        let day = read(text.as_bytes()).expect("the day can be read");
+        let watched = watch(&day).expect("the day can be run");
+        let moved = watched.stretches.last().and_then(|stretch| stretch.moved.as_ref()).expect("a node");
+        let most = moved.most().expect("a way");
+        let seven = Some(Address::new(0, 7));
+        assert_eq!((most.child, most.now, most.training), (seven, 0.5, Some(0.75)));
+        assert_eq!((moved.shares[1].change(), moved.shares[2].change()), (0.0, 0.25));
     }
 }

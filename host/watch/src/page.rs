@@ -95,11 +95,11 @@ fn course(day: &Day, watched: &Watched) -> String {
     if watched.readings().next().is_none() {
         return "<p>No path of the day is added, so there is nothing to draw.</p>\n".to_string();
     }
-    let judged = watched.tally().judged > 0;
+    let spread = watched.trained.as_ref().is_some_and(|trained| trained.sequences > 1);
     let keys = [
         ("day", true, "the day".to_string()),
         ("mean", watched.trained.is_some(), "the baseline's mean at the same length".to_string()),
-        ("band", judged, format!("up to {} deviations around it", day.drift)),
+        ("band", spread, format!("up to {} deviations around it", day.drift)),
         ("stretch", !watched.stretches.is_empty(), "drift".to_string()),
         ("unjudged", !watched.unjudged().is_empty(), "not judged".to_string()),
         ("never-seen", !watched.found.is_empty(), "never seen on a good day".to_string()),
@@ -195,7 +195,7 @@ fn nodes(day: &Day, watched: &Watched) -> String {
     format!("{}<div class=\"nodes\">\n{}</div>\n{}", key, nodes, others)
 }
 
-/// Where a node's paths went, beside the prior; what has moved most comes first.
+/// Where a node's paths went, beside the prior and the training; what has moved most comes first.
 fn bars(day: &Day, moved: &Moved) -> String {
     if moved.shares.is_empty() {
         return String::new();
@@ -215,7 +215,8 @@ fn bars(day: &Day, moved: &Moved) -> String {
     let way = |share: &&Share| {
         let way = escaped(&words::way(day, share));
         let (now, prior) = (bar("now", "now", share.now), bar("prior", "by the prior", share.prior));
-        format!("<div class=\"way\"><span class=\"to\">{}</span>\n{}{}</div>\n", way, now, prior)
+        let usual = share.training.map(|share| bar("usual", "in the training", share)).unwrap_or_default();
+        format!("<div class=\"way\"><span class=\"to\">{}</span>\n{}{}{}</div>\n", way, now, prior, usual)
     };
     let ways: String = shares.iter().take(WAYS).map(way).collect();
     let more = match shares.len().saturating_sub(WAYS) {

@@ -68,7 +68,8 @@ fn row(text: &mut String, index: usize, reading: &Reading, watched: &Watched) ->
     };
     let sign = match judged {
         Judged::Calm => "",
-        Judged::Drift(_) | Judged::Often(_) => " *",
+        Judged::Drift(_) => " *",
+        Judged::Often(_) => " * too often",
         Judged::Not(_) => " ?",
     };
     let sum = beside(stats.sum, figures.map(|figures| figures.sum), *sum);

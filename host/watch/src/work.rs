@@ -196,7 +196,7 @@ impl Run<'_> {
     /// A node with its shares, and what is usual for it at the length that was asked for last.
     fn moved(&self, (node, divergence): (Address, f64)) -> Result<Moved, Refusal> {
         let usual = self.by_node().map(|by_node| by_node.usual(node, self.usual.length).mean);
-        let shares = moved::shares(&self.tracker, self.day, node)?;
+        let shares = moved::shares(&self.tracker, self.day, self.by_node(), node)?;
         Ok(Moved { node, divergence, usual, shares })
     }
 
