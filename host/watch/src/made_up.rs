@@ -5,7 +5,7 @@ use crate::day::{Day, Prior};
 use crate::reader::read;
 use crate::report::report;
 use crate::stretches::End;
-use crate::watched::{Judged, Verdict, Watched};
+use crate::watched::{Judged, Tally, Verdict, Watched};
 use crate::work::watch;
 use cases::rng::Rng;
 use std::collections::BTreeMap;
@@ -90,6 +90,8 @@ fn made_up(plan: Plan, seed: usize) -> String {
 fn watched(plan: Plan, seed: usize) -> (Day, Watched) {
     let day = read(made_up(plan, seed).as_bytes()).expect("a made-up day can be read");
     let watched = watch(&day).expect("a made-up day can be run");
+    let Tally { judged, unjudged, left_out, .. } = watched.tally();
+    assert_eq!(judged + unjudged + left_out, plan.paths);
     (day, watched)
 }
 

@@ -185,7 +185,11 @@ mod tests {
 
     /// Eight sequences that differ, the first with one path more of an odd kind, and a day.
     fn watched(odd: &str, day: &str) -> Watched {
-        let priors = "window 20\nprior 2/0 0 1/0 50 1/1 50\nprior 1/0 30 0/0 10\nprior 1/1 20 0/0 20\n";
+        watched_in(20, odd, day)
+    }
+
+    fn watched_in(window: usize, odd: &str, day: &str) -> Watched {
+        let priors = "prior 2/0 0 1/0 50 1/1 50\nprior 1/0 30 0/0 10\nprior 1/1 20 0/0 20\n";
         let path = |number: usize| ["2/0 1/0", "2/0 1/1 0/0", "2/0 1/1", "2/0 1/0 0/0"][number % 4];
         let paths = |from: usize| (from..from + 19).map(|n| format!("path {}\n", path(n * n + n / 3)));
         let sequence = |number: usize| {
@@ -193,7 +197,8 @@ mod tests {
             format!("sequence\n{}path {}\n", paths(5 * number).collect::<String>(), last)
         };
         let training: String = (0..8).map(sequence).collect();
-        let text = format!("{}{}day\n{}{}", priors, training, paths(10).collect::<String>(), day);
+        let head = format!("window {}\n{}{}", window, priors, training);
+        let text = format!("{}day\n{}{}", head, paths(10).collect::<String>(), day);
         watch(&read(text.as_bytes()).expect("the day can be read")).expect("the day can be run")
     }
 
@@ -212,6 +217,16 @@ mod tests {
             let often = often.expect("a stretch by how often it is done");
             assert_eq!((often.in_training, often.training, often.of), (1, 160, 20));
             assert!(watched.readings().any(|(_, reading)| matches!(reading.judged, Judged::Often(_))));
+        }
+    }
+
+    #[test]
+    fn a_small_window_does_not_hide_them() {
+        let calm = "path 2/0 1/0\npath 2/0 1/1\n".repeat(300);
+        let few = format!("{}{}", "path 2/0\n".repeat(4), calm);
+        for window in [1, 2, 5, 20] {
+            let watched = watched_in(window, "2/0", &few);
+            assert!(watched.stretches.iter().any(|stretch| stretch.often.is_some()), "{}", window);
         }
     }
 

@@ -20,6 +20,8 @@ use teakpool::{Address, Refusal, Tracker, ENTRY_BYTES, PLACE_BYTES};
 
 /// Nodes that a report shows.
 pub const NODES: usize = 20;
+/// Paths over which it is looked how often something is done, at least.
+const RATE_WINDOW: usize = 8;
 /// Where all paths count, tables grow with the day, and a reading tests all of them. Past so many
 /// paths the readings lie the further apart the longer the day is, so that its time grows with the
 /// paths and not with their square.
@@ -85,12 +87,10 @@ pub fn watch(day: &Day) -> Result<Watched, Problem> {
 }
 
 /// Paths over which it is looked how often something is done: the window, or where all paths count
-/// as many as a training sequence has.
+/// as many as a training sequence has. Of very few nothing can be said.
 fn rate_window(day: &Day) -> usize {
-    match day.window {
-        0 => day.training_paths().max(1),
-        window => window as usize,
-    }
+    let window = if day.window == 0 { day.training_paths() } else { day.window as usize };
+    window.max(RATE_WINDOW)
 }
 
 /// A day as it is run.
