@@ -11,6 +11,7 @@ mod csv;
 mod day;
 mod facts;
 mod files;
+mod findings;
 #[cfg(test)]
 mod generated;
 mod known;

@@ -5,6 +5,7 @@
 use crate::chart::{chart, NARROW, WIDE};
 use crate::day::Day;
 use crate::facts;
+use crate::findings;
 use crate::moved::{Moved, Share};
 use crate::watched::{Verdict, Watched};
 use crate::words::{self, SHOWN};
@@ -153,11 +154,11 @@ fn marks(day: &Day) -> String {
 fn drift(day: &Day, watched: &Watched) -> String {
     let mut text = String::new();
     if watched.stretches.is_empty() {
-        text.push_str(&format!("<p>{}</p>\n", escaped(&words::nowhere(day, watched))));
+        text.push_str(&format!("<p>{}</p>\n", escaped(&findings::nowhere(day, watched))));
     }
-    let (shown, more) = words::worst(&watched.stretches);
+    let (shown, more) = findings::worst(&watched.stretches);
     for stretch in shown {
-        let lines: String = words::stretch(day, watched, stretch)
+        let lines: String = findings::stretch(day, watched, stretch)
             .iter()
             .map(|line| format!("<p>{}</p>\n", escaped(line)))
             .collect();
@@ -165,11 +166,11 @@ fn drift(day: &Day, watched: &Watched) -> String {
         text.push_str(&format!("<article>\n{}{}</article>\n", lines, bars));
     }
     text.extend(more.map(|more| format!("<p>{}</p>\n", escaped(&more))));
-    text + &list("parts", &words::below_stretches(day, watched))
+    text + &list("parts", &findings::below_stretches(day, watched))
 }
 
 fn never_seen(day: &Day, watched: &Watched) -> String {
-    let Some((title, found)) = words::never_seen(day, watched) else {
+    let Some((title, found)) = findings::never_seen(day, watched) else {
         return String::new();
     };
     section("never-seen", &title, list("found", &found))

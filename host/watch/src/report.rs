@@ -2,6 +2,7 @@
 
 use crate::day::Day;
 use crate::facts;
+use crate::findings;
 use crate::usual::Held;
 use crate::watched::{Judged, Reading, Watched};
 use crate::words;
@@ -81,20 +82,20 @@ fn row(text: &mut String, index: usize, reading: &Reading, watched: &Watched) ->
 fn drift(text: &mut String, day: &Day, watched: &Watched) -> Written {
     writeln!(text, "\nWhere it drifts")?;
     if watched.stretches.is_empty() {
-        writeln!(text, "  {}", words::nowhere(day, watched))?;
+        writeln!(text, "  {}", findings::nowhere(day, watched))?;
     }
-    let (shown, more) = words::worst(&watched.stretches);
+    let (shown, more) = findings::worst(&watched.stretches);
     for stretch in shown {
-        let lines = words::stretch(day, watched, stretch);
+        let lines = findings::stretch(day, watched, stretch);
         writeln!(text, "  {}", lines.join("\n    "))?;
     }
-    let below = more.into_iter().chain(words::below_stretches(day, watched));
+    let below = more.into_iter().chain(findings::below_stretches(day, watched));
     lines(text, below)
 }
 
 /// What no good day has done.
 fn never_seen(text: &mut String, day: &Day, watched: &Watched) -> Written {
-    let Some((title, found)) = words::never_seen(day, watched) else {
+    let Some((title, found)) = findings::never_seen(day, watched) else {
         return Ok(());
     };
     writeln!(text, "\n{}", title)?;

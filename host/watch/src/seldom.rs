@@ -64,20 +64,19 @@ impl Rates {
             *self.in_last.entry(odd).or_default() += 1;
             *self.all.entry(odd).or_default() += 1;
         }
-        if let Some(count) = leaving.flatten().and_then(|odd| self.in_last.get_mut(&odd)) {
-            *count -= 1;
+        if let Some(odd) = leaving.flatten() {
+            let left = self.in_last.get(&odd).map_or(0, |count| count - 1);
+            match left {
+                0 => drop(self.in_last.remove(&odd)),
+                left => drop(self.in_last.insert(odd, left)),
+            }
         }
     }
 
-    /// What is done most above the training by the last paths, more than by this limit.
-    pub fn most(&self, known: &Known, limit: f64) -> Option<Often> {
-        above(known, &self.in_last, self.last.len(), limit).reduce(|one, other| {
-            if other.deviations > one.deviations {
-                other
-            } else {
-                one
-            }
-        })
+    /// What the last paths do furthest above the training, where that is drift or nearly.
+    pub fn most(&self, known: &Known, drift: f64) -> Option<Often> {
+        let by_deviations = |one: &Often, other: &Often| one.deviations.total_cmp(&other.deviations);
+        above(known, &self.in_last, self.last.len(), drift).max_by(by_deviations)
     }
 
     /// What all paths together do so.
@@ -98,13 +97,13 @@ fn above<'a>(
     of: usize,
     drift: f64,
 ) -> impl Iterator<Item = Often> + 'a {
+    let more = move |(odd, paths): &(&Odd, &usize)| **paths * known.paths > known.times(**odd) * of;
     let often = move |(odd, paths): (&Odd, &usize)| {
         let (what, paths, in_training, training) = (*odd, *paths, known.times(*odd), known.paths);
         let deviations = deviations([paths, of], [in_training, training]);
         Often { what, paths, of, in_training, training, deviations }
     };
-    let more = |often: &Often| often.paths * often.training > often.in_training * often.of;
-    counts.iter().map(often).filter(move |often| more(often) && often.is_above(drift))
+    counts.iter().filter(more).map(often).filter(move |often| often.is_above(drift))
 }
 
 /// How far one share lies above another, each so many of so many. Shares differ by chance the less
