@@ -53,6 +53,8 @@ fn wrong_arguments_are_answered_before_the_archive_is_looked_for() {
     let missing = |name: &str| (Some(1), format!("{}: there is no such file\n", name));
     assert_eq!(answered(&["no\u{7f}ne"]), missing("no?ne"));
     assert_eq!(answered(&["none--"]), missing("none--"));
+    let closed = Command::new("bash").args(["-c", "../../run --htlm 2>&-"]).status();
+    assert_eq!(closed.expect("./run runs").code(), Some(2));
     // What is right is not answered.
     let none = |words: &[&str]| answered(words).1.contains("there is no archive at ");
     assert!(none(&["--html", "/dev/null", "--csv", "/dev/null", day]));
