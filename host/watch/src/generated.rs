@@ -129,7 +129,7 @@ fn bytes(random: &mut Rng) -> Vec<u8> {
             }
         }
     }
-    let mut bytes = lines.join(random.pick(&["\n", "\r\n"])).into_bytes();
+    let mut bytes = lines.join(random.pick(&["\n", "\r\n", "\r"])).into_bytes();
     if random.chance(20) && !bytes.is_empty() {
         let at = random.below(bytes.len());
         bytes[at] = random.bits() as u8;
