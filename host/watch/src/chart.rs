@@ -3,9 +3,9 @@
 //! what was never seen. One drawing is for a desk and one for a telephone; both are plain SVG.
 
 use crate::day::Day;
-use crate::usual::{spread, Usual};
-use crate::watched::{Judged, LeftOut, Place, Reading, Watched};
-use crate::words::NO_FIGURE;
+use crate::usual::{spread, UsualAt};
+use crate::watched::{LeftOut, Reading, Unjudged, Watched};
+use crate::words::{NO_FIGURE, SHOWN};
 use std::fmt::Write;
 use teakpool::{BaselineStats, MeanVariance};
 
@@ -198,21 +198,19 @@ impl Frame<'_> {
     /// The readings of a figure, in a long day the greatest of each column.
     fn points(&self, figure: &Figure) -> Vec<Point> {
         let mut points: Vec<(usize, Point)> = Vec::new();
-        let mut usual = (0, Usual::UNKNOWN);
+        let mut usual_at = UsualAt::new(self.watched.trained.as_ref());
         for (index, reading) in self.watched.readings() {
             let (Some(value), length) = ((figure.value)(reading), reading.stats.sequence_length) else {
                 continue;
             };
-            if usual.0 != length {
-                usual = (length, self.watched.usual(length));
-            }
-            let known = usual.1.figures.as_ref().map(figure.usual);
-            let judged = known.filter(|_| !matches!(reading.judged, Judged::Not(_)));
+            let usual = usual_at.at(length);
+            let known = usual.figures.as_ref().map(figure.usual);
+            let known_spread = known.filter(|_| usual.unusable.is_none());
             let point = Point {
                 x: self.x(index),
                 value,
                 mean: known.map(|known| known.mean).filter(|mean| mean.abs() < NO_FIGURE),
-                reach: judged.and_then(spread).map(|spread| self.day.drift * spread),
+                reach: known_spread.and_then(spread).map(|spread| self.day.drift * spread),
             };
             match points.last_mut().filter(|(column, _)| *column == self.column(index)) {
                 Some((_, last)) if last.value >= value => {}
@@ -249,14 +247,12 @@ impl Frame<'_> {
     /// Stretches, what is not judged, and what was never seen.
     fn shades(&self, svg: &mut String, top: f64) {
         let (mut unjudged, mut never_seen) = (vec![0; self.columns], vec![false; self.columns]);
-        // What has no reading of its own is as the reading before it.
+        // What was never seen is as the path before it.
         let mut not_judged = false;
-        for (index, place) in self.watched.places.iter().enumerate() {
-            match place {
-                Place::LeftOut(LeftOut::NeverSeen) => never_seen[self.column(index)] = true,
-                Place::LeftOut(_) | Place::Read(Reading { judged: Judged::Not(_), .. }) => not_judged = true,
-                Place::Read(_) => not_judged = false,
-                Place::Unread => {}
+        for (index, judgement) in self.watched.judgements().into_iter().enumerate() {
+            match judgement {
+                Some(Unjudged::LeftOut(LeftOut::NeverSeen)) => never_seen[self.column(index)] = true,
+                judgement => not_judged = judgement.is_some(),
             }
             unjudged[self.column(index)] |= u8::from(not_judged);
         }
@@ -350,8 +346,8 @@ impl Frame<'_> {
     /// The marks as numbered lines; their texts stand below the picture.
     fn marks(&self, svg: &mut String) {
         let mut last = f64::MIN;
-        for (number, (index, _)) in (1..).zip(&self.day.marks) {
-            let x = self.edge(*index as f64);
+        for (number, marks) in (1..).zip(self.day.marks_by_place()).take(SHOWN) {
+            let x = self.edge(marks[0].0 as f64);
             if x - last < self.size.apart {
                 continue;
             }

@@ -1,8 +1,12 @@
 //! What shows only when all lines of a day are read: tables of one length, priors that leave room
 //! in them, a rate and a capacity that fit the paths, and a training that its priors allow.
 
-use crate::day::{Day, Paths, Setting, TableRule, MAX_KNOTS};
+use crate::counts::Counts;
+use crate::day::{Day, Paths, Prior, Setting, TableRule, MAX_KNOTS};
+use crate::known::Known;
 use crate::mistakes::Mistakes;
+use std::collections::HashSet;
+use teakpool::Address;
 
 /// Tests that the lines of a day fit together; `tables_read` is false where a line of the tables
 /// is wrong already.
@@ -38,16 +42,24 @@ fn whole_tables(day: &Day, mistakes: &mut Mistakes) -> bool {
 /// A visited node's prior leaves room in the tables for one path at least.
 fn room_in_tables(day: &Day, mistakes: &mut Mistakes) {
     let last_index = day.tables.last_index();
-    for (node, prior) in day.priors.iter().filter(|(_, prior)| prior.total() >= last_index) {
-        if each_history(day).any(|paths| paths.iter().any(|steps| steps.contains(node))) {
-            let text = format!(
-                "the counts of this prior come to {}, and the last index of the tables is {}",
-                prior.total(),
-                last_index
-            );
-            mistakes.add(prior.line, text);
-        }
+    let too_great: Vec<(&Address, &Prior)> =
+        day.priors.iter().filter(|(_, prior)| prior.total() >= last_index).collect();
+    if too_great.is_empty() {
+        return;
     }
+    let visited: HashSet<&Address> = each_history(day).flat_map(Paths::iter).flatten().collect();
+    for (_, prior) in too_great.iter().filter(|(node, _)| visited.contains(node)) {
+        mistakes.add(prior.line, no_room(prior, last_index));
+    }
+}
+
+/// What is wrong with a prior that leaves no room for a path.
+pub fn no_room(prior: &Prior, last_index: u64) -> String {
+    format!(
+        "the counts of this prior come to {}, and the last index of the tables is {}",
+        prior.total(),
+        last_index
+    )
 }
 
 /// A given rate leaves few enough knots.
@@ -75,11 +87,36 @@ fn enough_capacity(day: &Day, mistakes: &mut Mistakes) {
     let Some(Setting { line, value }) = day.capacity else {
         return;
     };
-    let entries = each_history(day).map(Paths::entries).max().unwrap_or(0);
+    let training = day.sequences.iter().map(|sequence| entries(sequence.iter())).max().unwrap_or(0);
+    let entries = training.max(entries(added(day)));
     if entries > value {
         let text = format!("a capacity of {} is too small: the paths need {} entries", value, entries);
         mistakes.add(line, text);
     }
+}
+
+/// Entries that a book needs for paths: nodes and transitions.
+fn entries<'a>(paths: impl Iterator<Item = &'a [Address]>) -> usize {
+    let mut listed: HashSet<(Address, Option<Address>)> = HashSet::new();
+    for steps in paths {
+        listed.extend(steps.iter().map(|step| (*step, None)));
+        listed.extend(steps.windows(2).map(|pair| (pair[0], Some(pair[1]))));
+    }
+    listed.len()
+}
+
+/// The paths of the day but for those that are left out, whatever room there is in the book.
+fn added(day: &Day) -> impl Iterator<Item = &[Address]> {
+    let (known, last_index) = (Known::of(day), day.tables.last_index());
+    let mut counts = Counts::new(day, &day.paths, day.window);
+    (0..day.paths.len()).filter_map(move |index| {
+        let steps = day.paths.steps(index);
+        let added = known.never_seen(steps).is_empty() && counts.past_end(index, last_index).is_none();
+        added.then(|| {
+            counts.add(index);
+            steps
+        })
+    })
 }
 
 /// In the training a node with a prior goes on to children that the prior has: a training that

@@ -2,7 +2,7 @@
 //! in it: a spreadsheet would read 1/7 as a date.
 
 use crate::day::Day;
-use crate::usual::{spread, Held, Usual, Why};
+use crate::usual::{spread, Held, Usual, UsualAt, Why};
 use crate::watched::{Judged, LeftOut, Place, Reading, Watched};
 use crate::words::NO_FIGURE;
 use std::io::{Result, Write};
@@ -16,16 +16,10 @@ const COLUMNS: &str = "path,line,length,\
 /// Writes a row for each path.
 pub fn write(out: &mut impl Write, day: &Day, watched: &Watched) -> Result<()> {
     writeln!(out, "{}", COLUMNS)?;
-    let mut usual = (0, Usual::UNKNOWN);
+    let mut usual = UsualAt::new(watched.trained.as_ref());
     for (index, place) in watched.places.iter().enumerate() {
         let figures = match place {
-            Place::Read(reading) => {
-                let length = reading.stats.sequence_length;
-                if usual.0 != length {
-                    usual = (length, watched.usual(length));
-                }
-                figures(reading, usual.1)
-            }
+            Place::Read(reading) => figures(reading, usual.at(reading.stats.sequence_length)),
             Place::Unread | Place::LeftOut(_) => ",".repeat(11),
         };
         let (judgement, reason) = judgement(place);
@@ -68,11 +62,14 @@ fn judgement(place: &Place) -> (&'static str, &'static str) {
         Place::Read(reading) => match reading.judged {
             Judged::Calm => ("calm", ""),
             Judged::Drift(_) => ("drift", ""),
+            Judged::Often(_) => ("drift", "done more often than in the training"),
             Judged::Not(Why::NoBaseline) => ("not judged", "no training sequences"),
             Judged::Not(Why::OneSequence) => ("not judged", "one training sequence"),
             Judged::Not(Why::OneKnot) => ("not judged", "one knot"),
             Judged::Not(Why::TooFar) => ("not judged", "far past the last knot"),
             Judged::Not(Why::NoSpread) => ("not judged", "no usable spread"),
+            Judged::Not(Why::CarriedOn) => ("not judged", "past the last knot"),
+            Judged::Not(Why::MoreOften) => ("not judged", "done more often than in the training"),
             Judged::Not(Why::NothingWatched) => ("not judged", "no node that has a prior"),
         },
     }

@@ -1,6 +1,6 @@
 //! A recorded day: its settings, priors, names, training sequences, paths and marks.
 
-use std::collections::{BTreeMap, HashSet};
+use std::collections::BTreeMap;
 use teakpool::Address;
 
 /// The format, as the help and the example's first lines have it.
@@ -12,6 +12,12 @@ pub const MAX_ENTRIES: usize = 16_384;
 pub const MAX_LAST: usize = 1_048_575;
 /// Knots that a baseline can have.
 pub const MAX_KNOTS: usize = 1_024;
+/// Nodes that priors can have, children of all of them, and children of one.
+pub const MAX_PRIORS: usize = 4_096;
+pub const MAX_PRIOR_CHILDREN: usize = 16_384;
+pub const MAX_CHILDREN: usize = 64;
+/// Paths that a tracker takes.
+pub const MAX_DAY_PATHS: usize = 16_777_216;
 
 /// A setting and the line it stands in.
 #[derive(Debug, Clone, Copy)]
@@ -44,7 +50,7 @@ impl TableRule {
         match self {
             TableRule::Gamma => MAX_LAST as u64,
             TableRule::Squares(last) => *last as u64,
-            TableRule::Numbers { g, .. } => g.values.len() as u64 - 1,
+            TableRule::Numbers { g, .. } => (g.values.len() as u64).saturating_sub(1),
         }
     }
 }
@@ -84,16 +90,6 @@ impl Paths {
     /// The steps of each path.
     pub fn iter(&self) -> impl Iterator<Item = &[Address]> {
         (0..self.len()).map(|index| self.steps(index))
-    }
-
-    /// Entries that a book needs for all of them: nodes and transitions.
-    pub fn entries(&self) -> usize {
-        let mut listed: HashSet<(Address, Option<Address>)> = HashSet::new();
-        for steps in self.iter() {
-            listed.extend(steps.iter().map(|step| (*step, None)));
-            listed.extend(steps.windows(2).map(|pair| (pair[0], Some(pair[1]))));
-        }
-        listed.len()
     }
 }
 
@@ -150,6 +146,11 @@ impl Day {
     /// Paths of each training sequence; 0 where there are none to train with.
     pub fn training_paths(&self) -> usize {
         self.sequences.first().map_or(0, Paths::len)
+    }
+
+    /// The marks by their places: those that stand before one path belong together.
+    pub fn marks_by_place(&self) -> impl Iterator<Item = &[(usize, String)]> {
+        self.marks.chunk_by(|one, other| one.0 == other.0)
     }
 
     /// The mark that the path with this index stands under.

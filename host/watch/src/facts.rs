@@ -45,12 +45,13 @@ fn baseline(watched: &Watched) -> String {
 
 /// How much of the day is judged.
 fn judged(watched: &Watched) -> String {
-    let Tally { judged, unjudged, unread, left_out, .. } = watched.tally();
-    let what = if unread > 0 { "reading" } else { "path" };
-    if unjudged + left_out == 0 {
-        return format!("judged: all {}", number(judged, what));
+    let Tally { judged, unjudged, left_out, .. } = watched.tally();
+    match (judged, unjudged + left_out) {
+        (1, 0) => return "judged: the only path".to_string(),
+        (judged, 0) => return format!("judged: all {}", number(judged, "path")),
+        _ => {}
     }
-    let mut text = format!("judged: {} of {}", judged, number(judged + unjudged + left_out, what));
+    let mut text = format!("judged: {} of {}", judged, number(judged + unjudged + left_out, "path"));
     if left_out > 0 {
         text.push_str(&format!("; {} left out", number(left_out, "path")));
     }
@@ -71,25 +72,23 @@ fn others(day: &Day, watched: &Watched) -> Option<String> {
     })
 }
 
-/// What makes the judgement weaker than it looks.
+/// What makes the judgement weaker than it looks, a line each.
 pub fn warnings(day: &Day, watched: &Watched) -> Vec<String> {
+    weaker(day, watched).iter().map(|warning| format!("warning: {}", warning)).collect()
+}
+
+fn weaker(day: &Day, watched: &Watched) -> Vec<String> {
     let mut warnings = Vec::new();
     if let Some(trained) = &watched.trained {
         warnings.extend(training_warning(trained));
         warnings.extend(knot_warning(day, watched, trained));
     }
-    let Tally { unread, by_one_figure, .. } = watched.tally();
+    let Tally { unread, .. } = watched.tally();
     if unread > 0 {
         warnings.push(format!(
             "all paths count and there are many, so {} of them are not read one by one: past path {} \
              the readings lie apart, and each covers the paths before it",
             unread, EVERY
-        ));
-    }
-    if by_one_figure > 0 {
-        warnings.push(format!(
-            "at {} sum or maximum has no usable spread, and the other alone is judged",
-            number(by_one_figure, "reading")
         ));
     }
     let [endings, in_training] = watched.new_endings;
@@ -136,8 +135,8 @@ fn knot_warning(day: &Day, watched: &Watched, trained: &Trained) -> Option<Strin
         window => format!("the window, of {},", number(window as usize, "path")),
     };
     Some(format!(
-        "{} goes past the last knot, at length {}: from there mean and spread are carried on, up to {} \
-         times that length",
+        "{} goes past the last knot, at length {}: from there drift is looked for with mean and spread \
+         carried on, up to {} times that length, and what does not drift is not judged",
         what, last, FAR
     ))
 }

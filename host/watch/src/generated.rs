@@ -129,12 +129,21 @@ fn bytes(random: &mut Rng) -> Vec<u8> {
             }
         }
     }
-    let mut bytes = lines.join(random.pick(&["\n", "\r\n"])).into_bytes();
+    let mut bytes = lines.join(random.pick(&["\n", "\r\n", "\r"])).into_bytes();
     if random.chance(20) && !bytes.is_empty() {
         let at = random.below(bytes.len());
         bytes[at] = random.bits() as u8;
     }
     bytes
+}
+
+/// Judged, left out and not judged are all paths in the report's first lines.
+fn counts_add_up(report: &str) {
+    let line = report.lines().find_map(|line| line.strip_prefix("  judged: ")).expect("there is one");
+    let numbers: Vec<usize> = line.split_whitespace().filter_map(|word| word.parse().ok()).collect();
+    if let [judged, all, rest @ ..] = &numbers[..] {
+        assert_eq!(judged + rest.iter().sum::<usize>(), *all, "{}", line);
+    }
 }
 
 /// Reads a file and reports it; true where there is a report.
@@ -158,15 +167,14 @@ fn ends(bytes: &[u8]) -> bool {
                 let mut figures = Vec::new();
                 csv::write(&mut figures, &day, &watched).expect("memory can be written");
                 let rows = figures.iter().filter(|byte| **byte == b'\n').count();
-                let Tally { judged, unjudged, unread, left_out, .. } = watched.tally();
-                assert_eq!(
-                    (rows, judged + unjudged + unread + left_out),
-                    (day.paths.len() + 1, day.paths.len())
-                );
+                let Tally { judged, unjudged, left_out, .. } = watched.tally();
+                assert_eq!((rows, judged + unjudged + left_out), (day.paths.len() + 1, day.paths.len()));
+                counts_add_up(&text);
                 // 'Nowhere' stands where there is nothing to find and all is judged.
                 let all = watched.verdict() == Verdict::NoDrift;
                 assert_eq!(text.contains("\n  nowhere: "), all, "{}", text);
-                assert_eq!(all, watched.stretches.is_empty() && judged + unread == day.paths.len());
+                let none = watched.stretches.is_empty() && watched.over_day.is_empty();
+                assert_eq!(all, none && judged == day.paths.len());
                 return true;
             }
         },

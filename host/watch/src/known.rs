@@ -3,9 +3,11 @@
 //!
 //! - a node goes on to a child that its prior does not have. Once in the book the child would give
 //!   refusal 14 to every later reading.
-//! - a path ends where the prior has no ending, and no training path does so anywhere. The
-//!   divergence leaves such endings out and falls by them, so that they would pass for calm.
+//! - a path ends where the prior has no ending, and no training path ends there. The divergence
+//!   leaves such endings out and falls by them, so that they would pass for calm.
 //! - a path meets no node that has a prior, and every training path does. Nothing of it is watched.
+//!
+//! What a training path does too is added, and `seldom` looks at how often it is done.
 
 use crate::day::{Day, Prior};
 use std::collections::BTreeMap;
@@ -34,23 +36,50 @@ pub struct Found {
     pub last: usize,
 }
 
+/// What the prior does not tell of a path, and what a good day may do seldom.
+#[derive(Debug, Clone, Copy, PartialEq, Eq, PartialOrd, Ord)]
+pub enum Odd {
+    /// It ends at a node where none ends by the prior.
+    Ending { node: Address },
+    /// It meets no node that has a prior.
+    Unwatched,
+}
+
+/// The paths among these that end where the prior has no ending.
+pub fn endings(odd: &BTreeMap<Odd, usize>) -> usize {
+    odd.iter().filter(|(odd, _)| matches!(odd, Odd::Ending { .. })).map(|(_, count)| count).sum()
+}
+
 /// What is known of good days.
 pub struct Known<'a> {
     priors: &'a BTreeMap<Address, Prior>,
-    /// Training paths that end where the prior has no ending.
-    pub endings: usize,
-    /// There is no training, or some of its paths meet no node that has a prior.
-    unwatched: bool,
+    /// Training paths.
+    pub paths: usize,
+    /// How many of them do what the prior does not tell.
+    odd: BTreeMap<Odd, usize>,
 }
 
 impl<'a> Known<'a> {
     /// By the priors and the training of a day's file.
     pub fn of(day: &'a Day) -> Known<'a> {
-        let training = || day.sequences.iter().flat_map(|sequence| sequence.iter());
-        let mut known = Known { priors: &day.priors, endings: 0, unwatched: true };
-        known.endings = training().filter(|steps| known.new_ending(steps).is_some()).count();
-        known.unwatched = training().next().is_none() || training().any(|steps| known.is_unwatched(steps));
+        let mut known = Known { priors: &day.priors, paths: 0, odd: BTreeMap::new() };
+        for steps in day.sequences.iter().flat_map(|sequence| sequence.iter()) {
+            known.paths += 1;
+            if let Some(odd) = known.odd(steps) {
+                *known.odd.entry(odd).or_default() += 1;
+            }
+        }
         known
+    }
+
+    /// How many training paths do it.
+    pub fn times(&self, odd: Odd) -> usize {
+        self.odd.get(&odd).copied().unwrap_or(0)
+    }
+
+    /// Training paths that end where the prior has no ending.
+    pub fn new_endings(&self) -> usize {
+        endings(&self.odd)
     }
 
     /// What a path does that was never seen, each with its step.
@@ -62,24 +91,24 @@ impl<'a> Known<'a> {
                 never_seen.push((step, NeverSeen::Child { node, child }));
             }
         }
-        match self.new_ending(steps) {
-            Some(node) if self.endings == 0 => never_seen.push((steps.len() - 1, NeverSeen::Ending { node })),
+        match self.odd(steps).filter(|odd| self.times(*odd) == 0) {
+            Some(Odd::Ending { node }) => never_seen.push((steps.len() - 1, NeverSeen::Ending { node })),
+            Some(Odd::Unwatched) if self.paths > 0 => {
+                never_seen.push((0, NeverSeen::Unwatched { begins: steps[0] }))
+            }
             _ => {}
-        }
-        if !self.unwatched && self.is_unwatched(steps) {
-            never_seen.push((0, NeverSeen::Unwatched { begins: steps[0] }));
         }
         never_seen
     }
 
-    /// The node where a path ends, if none ends there by its prior.
-    pub fn new_ending(&self, steps: &[Address]) -> Option<Address> {
-        let last = steps.last()?;
-        self.priors.get(last).filter(|prior| prior.ends == 0).map(|_| *last)
-    }
-
-    fn is_unwatched(&self, steps: &[Address]) -> bool {
-        !steps.iter().any(|step| self.priors.contains_key(step))
+    /// What the prior does not tell of a path.
+    pub fn odd(&self, steps: &[Address]) -> Option<Odd> {
+        let node = *steps.last()?;
+        match self.priors.get(&node) {
+            Some(prior) if prior.ends == 0 => Some(Odd::Ending { node }),
+            None if !steps.iter().any(|step| self.priors.contains_key(step)) => Some(Odd::Unwatched),
+            _ => None,
+        }
     }
 }
 
@@ -134,7 +163,11 @@ mod tests {
         assert_eq!(never_seen(&["2/0 1/0"], "2/0"), [(0, ending)]);
         assert_eq!(never_seen(&[], "2/0"), [(0, ending)]);
         assert_eq!(never_seen(&["2/0 1/0", "2/0"], "2/0"), []);
-        assert_eq!(Known::of(&day(&["2/0 1/0", "2/0"], "2/0")).endings, 1);
+        assert_eq!(Known::of(&day(&["2/0 1/0", "2/0"], "2/0")).new_endings(), 1);
+        // An ending elsewhere does not make this one usual.
+        let two = "prior 3/0 0 2/0 5\nsequence\npath 3/0\nday\npath 3/0 2/0";
+        let day = read(format!("{}{}", PRIORS, two).as_bytes()).expect("a day");
+        assert_eq!(Known::of(&day).never_seen(day.paths.steps(0)), [(1, ending)]);
         // It has endings by its prior, or no prior.
         assert_eq!(never_seen(&["2/0 1/0"], "2/0 1/0"), []);
         assert_eq!(never_seen(&["2/0 1/0"], "2/0 1/1"), []);

@@ -1,5 +1,7 @@
-//! The nodes that moved: a node's divergence, and its shares in the window beside the prior's.
+//! The nodes that moved: a node's divergence, and its shares in the window beside the prior's and
+//! the training's.
 
+use crate::by_node::ByNode;
 use crate::day::Day;
 use crate::lent::Lent;
 use teakpool::{Address, Output, Refusal, Tracker};
@@ -9,27 +11,31 @@ use teakpool::{Address, Output, Refusal, Tracker};
 pub struct Moved {
     pub node: Address,
     pub divergence: f64,
+    /// Its mean divergence in the training at the same length, where that is known.
+    pub usual: Option<f64>,
     /// Children ascending, then the ending; none where the node is not in the window.
     pub shares: Vec<Share>,
 }
 
-/// A child's share of what its node was left for, now and by the prior; none for the ending.
+/// A child's share of what its node was left for, now, by the prior and in the training where that
+/// meets the node; none for the ending.
 #[derive(Debug, Clone, Copy)]
 pub struct Share {
     pub child: Option<Address>,
     pub now: f64,
     pub prior: f64,
+    pub training: Option<f64>,
 }
 
 impl Share {
-    /// How much it differs.
+    /// How much it differs from what good days do: a prior can be off on good days too.
     pub fn change(&self) -> f64 {
-        (self.now - self.prior).abs()
+        (self.now - self.training.unwrap_or(self.prior)).abs()
     }
 }
 
 impl Moved {
-    /// The share that differs most from the prior's.
+    /// The share that differs most.
     pub fn most(&self) -> Option<&Share> {
         self.shares.iter().reduce(|one, other| if other.change() > one.change() { other } else { one })
     }
@@ -52,12 +58,13 @@ pub fn divergences(
     Ok((nodes, list.skipped))
 }
 
-/// A node with its shares.
-pub fn moved(tracker: &Tracker, day: &Day, (node, divergence): (Address, f64)) -> Result<Moved, Refusal> {
-    Ok(Moved { node, divergence, shares: shares(tracker, day, node)? })
-}
-
-fn shares(tracker: &Tracker, day: &Day, node: Address) -> Result<Vec<Share>, Refusal> {
+/// Where a node's paths went, now and in the training.
+pub fn shares(
+    tracker: &Tracker,
+    day: &Day,
+    by_node: Option<&ByNode>,
+    node: Address,
+) -> Result<Vec<Share>, Refusal> {
     let Some(prior) = day.priors.get(&node) else {
         return Ok(Vec::new());
     };
@@ -70,11 +77,10 @@ fn shares(tracker: &Tracker, day: &Day, node: Address) -> Result<Vec<Share>, Ref
     let seen: Vec<(Address, f64)> = output.places(vector.places).collect();
     let total = prior.total() as f64;
     let now = |child: &Address| seen.iter().find(|(seen, _)| seen == child).map_or(0.0, |(_, share)| *share);
-    let child = |(child, count): (&Address, &u32)| Share {
-        child: Some(*child),
-        now: now(child),
-        prior: f64::from(*count) / total,
+    let share = |child: Option<Address>, now: f64, count: u32| {
+        let training = by_node.and_then(|by_node| by_node.share(node, child));
+        Share { child, now, prior: f64::from(count) / total, training }
     };
-    let ending = Share { child: None, now: vector.ending, prior: f64::from(prior.ends) / total };
-    Ok(prior.children.iter().map(child).chain([ending]).collect())
+    let children = prior.children.iter().map(|(child, count)| share(Some(*child), now(child), *count));
+    Ok(children.chain([share(None, vector.ending, prior.ends)]).collect())
 }

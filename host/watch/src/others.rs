@@ -1,15 +1,11 @@
 //! The training sequences held against each other, each one against the mean and spread of the
 //! others. It shows how far good days go, beside which a stretch of the day is to be seen.
 
-use crate::day::{Day, Paths};
+use crate::day::Day;
 use crate::lent::Lent;
-use crate::training::Trained;
+use crate::training::{at_knots, Trained};
 use crate::usual::{hold, Held};
-use crate::work::add;
-use teakpool::{KLDivergenceStats, MeanVariance, Refusal, Tracker};
-
-/// Trainings of more paths are not run a second time.
-const LONG: usize = 1_000_000;
+use teakpool::{KLDivergenceStats, MeanVariance, Refusal};
 
 /// How far the sequences go.
 #[derive(Debug, Clone, Copy, PartialEq)]
@@ -20,40 +16,28 @@ pub struct Others {
     pub above: usize,
 }
 
-/// Holds the sequences against each other at the knots. None where a sequence has not two others,
-/// or the training is long.
+/// Holds the sequences against each other at the knots. None where a sequence has not two others.
 pub fn against_others(
     day: &Day,
     lent: &Lent,
     book: &mut [u8],
     trained: &Trained,
 ) -> Result<Option<Others>, Refusal> {
-    if trained.sequences < 3 || day.sequences.len() * day.training_paths() > LONG {
+    if trained.sequences < 3 {
         return Ok(None);
     }
-    let readings = |sequence: &Paths| at_knots(sequence, lent, book, trained);
-    let readings = day.sequences.iter().map(readings).collect::<Result<Vec<_>, Refusal>>()?;
-    let most: Vec<f64> = (0..readings.len()).filter_map(|own| furthest(&readings, own)).collect();
+    let mut all = Vec::new();
+    for sequence in &day.sequences {
+        let mut readings = Vec::new();
+        at_knots(sequence, book, trained.rate, |_, tracker| {
+            readings.push(tracker.kl_div_stats(lent.tables(trained.greatest_index), lent.priors())?);
+            Ok(())
+        })?;
+        all.push(readings);
+    }
+    let most: Vec<f64> = (0..all.len()).filter_map(|own| furthest(&all, own)).collect();
     let above = most.iter().filter(|most| **most > day.drift).count();
     Ok(most.into_iter().reduce(f64::max).map(|most| Others { most, above }))
-}
-
-/// The statistics of a sequence at the knots.
-fn at_knots(
-    sequence: &Paths,
-    lent: &Lent,
-    book: &mut [u8],
-    trained: &Trained,
-) -> Result<Vec<KLDivergenceStats>, Refusal> {
-    let mut tracker = Tracker::open(0, book, &mut [])?;
-    let mut readings = Vec::new();
-    for (index, steps) in sequence.iter().enumerate() {
-        add(&mut tracker, steps)?;
-        if index % trained.rate as usize == 0 {
-            readings.push(tracker.kl_div_stats(lent.tables(trained.greatest_index), lent.priors())?);
-        }
-    }
-    Ok(readings)
 }
 
 /// The greatest deviations of one sequence from the others, over knots and both figures.

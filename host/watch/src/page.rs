@@ -5,14 +5,16 @@
 use crate::chart::{chart, NARROW, WIDE};
 use crate::day::Day;
 use crate::facts;
+use crate::findings;
 use crate::moved::{Moved, Share};
-use crate::report::worst;
 use crate::watched::{Verdict, Watched};
 use crate::words::{self, SHOWN};
 
 const STYLE: &str = include_str!("page.css");
 /// A day of more paths has several in one place of the smaller drawing.
 const MANY: usize = 300;
+/// Marks at one place that are shown; more are counted.
+const AT_ONE_PLACE: usize = 5;
 /// Ways out of a node that are shown; more are counted.
 const WAYS: usize = 6;
 
@@ -73,15 +75,13 @@ fn head(name: &str, day: &Day, watched: &Watched) -> String {
         Verdict::Drift => "drifts",
         Verdict::NotAllJudged => "open",
     };
-    let warnings: Vec<String> =
-        facts::warnings(day, watched).iter().map(|warning| format!("warning: {}", warning)).collect();
     format!(
         "<header class=\"{}\">\n<p class=\"name\">The day {}</p>\n<h1>{}</h1>\n{}{}</header>\n",
         class,
         escaped(name),
         escaped(&heading(words::verdict(watched.verdict()))),
         list("facts", &facts::facts(day, watched)),
-        list("warnings", &warnings)
+        list("warnings", &facts::warnings(day, watched))
     )
 }
 
@@ -96,11 +96,11 @@ fn course(day: &Day, watched: &Watched) -> String {
     if watched.readings().next().is_none() {
         return "<p>No path of the day is added, so there is nothing to draw.</p>\n".to_string();
     }
-    let judged = watched.tally().judged > 0;
+    let spread = watched.trained.as_ref().is_some_and(|trained| trained.sequences > 1);
     let keys = [
         ("day", true, "the day".to_string()),
         ("mean", watched.trained.is_some(), "the baseline's mean at the same length".to_string()),
-        ("band", judged, format!("up to {} deviations around it", day.drift)),
+        ("band", spread, format!("up to {} deviations around it", day.drift)),
         ("stretch", !watched.stretches.is_empty(), "drift".to_string()),
         ("unjudged", !watched.unjudged().is_empty(), "not judged".to_string()),
         ("never-seen", !watched.found.is_empty(), "never seen on a good day".to_string()),
@@ -120,16 +120,30 @@ fn course(day: &Day, watched: &Watched) -> String {
     format!("<ul class=\"keys\">\n{}</ul>\n{}{}{}{}", keys, wide, narrow, columns, marks(day))
 }
 
+/// The texts of marks at one place; of many the first.
+fn texts(marks: &[(usize, String)]) -> String {
+    let texts: Vec<&str> = marks.iter().take(AT_ONE_PLACE).map(|(_, text)| &text[..]).collect();
+    match marks.len().saturating_sub(AT_ONE_PLACE) {
+        0 => texts.join("; "),
+        more => format!("{}; and {}", texts.join("; "), words::number(more, "more mark")),
+    }
+}
+
 /// The texts of the marks, numbered as in the picture.
 fn marks(day: &Day) -> String {
     if day.marks.is_empty() {
         return String::new();
     }
-    let item = |(index, text): &(usize, String)| {
-        format!("<li>{} <span class=\"quiet\">from path {}</span></li>\n", escaped(text), index + 1)
+    let item = |marks: &[(usize, String)]| {
+        let from = match marks[0].0 < day.paths.len() {
+            true => format!("from path {}", marks[0].0 + 1),
+            false => "after the last path".to_string(),
+        };
+        let text = escaped(&texts(marks));
+        format!("<li>{} <span class=\"quiet\">{}</span></li>\n", text, from)
     };
-    let items: String = day.marks.iter().take(SHOWN).map(item).collect();
-    let more = match day.marks.len().saturating_sub(SHOWN) {
+    let items: String = day.marks_by_place().take(SHOWN).map(item).collect();
+    let more = match day.marks_by_place().skip(SHOWN).map(<[_]>::len).sum() {
         0 => String::new(),
         more => format!("<p class=\"note\">and {}</p>\n", words::number(more, "more mark")),
     };
@@ -140,56 +154,49 @@ fn marks(day: &Day) -> String {
 fn drift(day: &Day, watched: &Watched) -> String {
     let mut text = String::new();
     if watched.stretches.is_empty() {
-        text.push_str(&format!("<p>{}</p>\n", escaped(&words::nowhere(day, watched))));
+        text.push_str(&format!("<p>{}</p>\n", escaped(&findings::nowhere(day, watched))));
     }
-    let (shown, more) = worst(&watched.stretches);
+    let (shown, more) = findings::worst(&watched.stretches);
     for stretch in shown {
-        let lines: String = words::stretch(day, watched, stretch)
+        let lines: String = findings::stretch(day, watched, stretch)
             .iter()
             .map(|line| format!("<p>{}</p>\n", escaped(line)))
             .collect();
         let bars = stretch.moved.as_ref().map(|moved| bars(day, moved)).unwrap_or_default();
         text.push_str(&format!("<article>\n{}{}</article>\n", lines, bars));
     }
-    if more > 0 {
-        text.push_str(&format!("<p>and {}, none of them worse</p>\n", words::number(more, "more stretch")));
-    }
-    let parts = watched.unjudged();
-    let mut lines: Vec<String> =
-        parts.iter().take(SHOWN).map(|part| words::part(day, watched, part)).collect();
-    if parts.len() > SHOWN {
-        lines.push(format!("and {} are not judged", words::number(parts.len() - SHOWN, "more part")));
-    }
-    text + &list("parts", &lines)
+    text.extend(more.map(|more| format!("<p>{}</p>\n", escaped(&more))));
+    text + &list("parts", &findings::below_stretches(day, watched))
 }
 
 fn never_seen(day: &Day, watched: &Watched) -> String {
-    let Some((title, found, more)) = words::never_seen(watched) else {
+    let Some((title, found)) = findings::never_seen(day, watched) else {
         return String::new();
     };
-    let mut lines: Vec<String> = found.iter().map(|found| words::found(day, found)).collect();
-    if more > 0 {
-        lines.push(format!("and {} of it", words::number(more, "more kind")));
-    }
-    section("never-seen", &title, list("found", &lines))
+    section("never-seen", &title, list("found", &found))
 }
 
 /// The nodes with the greatest divergences.
 fn nodes(day: &Day, watched: &Watched) -> String {
     let node = |moved: &Moved| {
+        let [divergence, usual] = words::divergence(moved);
         format!(
-            "<article>\n<p><b>{}</b> <span class=\"figure\">{}</span> {}</p>\n{}</article>\n",
+            "<article>\n<p><b>{}</b> <span class=\"figure\">{}</span> <span class=\"quiet\">{}</span> \
+             {}</p>\n{}</article>\n",
             escaped(&words::node(day, moved.node)),
-            words::figure(moved.divergence),
+            divergence,
+            usual,
             escaped(&words::share(day, moved)),
             bars(day, moved)
         )
     };
     let nodes: String = watched.nodes.iter().map(node).collect();
-    format!("<div class=\"nodes\">\n{}</div>\n{}", nodes, list("others", &words::other_nodes(watched)))
+    let others = list("others", &words::other_nodes(watched));
+    let key = "<p class=\"note\">Divergence, its mean in the training, and what has moved most.</p>\n";
+    format!("{}<div class=\"nodes\">\n{}</div>\n{}", key, nodes, others)
 }
 
-/// Where a node's paths went, beside the prior; what has moved most comes first.
+/// Where a node's paths went, beside the prior and the training; what has moved most comes first.
 fn bars(day: &Day, moved: &Moved) -> String {
     if moved.shares.is_empty() {
         return String::new();
@@ -209,7 +216,8 @@ fn bars(day: &Day, moved: &Moved) -> String {
     let way = |share: &&Share| {
         let way = escaped(&words::way(day, share));
         let (now, prior) = (bar("now", "now", share.now), bar("prior", "by the prior", share.prior));
-        format!("<div class=\"way\"><span class=\"to\">{}</span>\n{}{}</div>\n", way, now, prior)
+        let usual = share.training.map(|share| bar("usual", "in the training", share)).unwrap_or_default();
+        format!("<div class=\"way\"><span class=\"to\">{}</span>\n{}{}{}</div>\n", way, now, prior, usual)
     };
     let ways: String = shares.iter().take(WAYS).map(way).collect();
     let more = match shares.len().saturating_sub(WAYS) {
@@ -256,5 +264,24 @@ mod tests {
         for tag in ["<b>\"", "<script", "<i>", "http:", "https:", "src=", "@import", "onload"] {
             assert!(!page.contains(tag), "{}", tag);
         }
+    }
+
+    #[test]
+    fn every_number_of_a_mark_has_its_text() {
+        let marks = |count: usize| (0..count).map(|number| format!("mark m{}\n", number)).collect::<String>();
+        let text = format!("day\n{}path 1/7\nmark noon\npath 1/7\nmark <home>\n", marks(25));
+        let day = read(text.as_bytes()).expect("the day can be read");
+        let page = page("a day", &day, &watch(&day).expect("the day can be run"));
+        let items: Vec<&str> = page.lines().filter(|line| line.contains("class=\"quiet\">")).collect();
+        assert!(items[0].contains("m0; m1; m2; m3; m4; and 20 more marks"), "{}", items[0]);
+        assert!(items[1].contains("noon <span class=\"quiet\">from path 2<"), "{}", items[1]);
+        assert!(items[2].contains("&lt;home&gt; <span class=\"quiet\">after the last path<"), "{}", items[2]);
+        assert_eq!(page.matches("<text class=\"mark\"").count(), 2 * 3);
+        // At many places the first twenty.
+        let many: String = (0..30).map(|number| format!("mark m{}\npath 1/7\n", number)).collect();
+        let day = read(format!("day\n{}", many).as_bytes()).expect("the day can be read");
+        let page = super::page("a day", &day, &watch(&day).expect("the day can be run"));
+        assert!(page.contains("and 10 more marks"));
+        assert!(!page.contains("\" y=\"14\">21</text>"));
     }
 }

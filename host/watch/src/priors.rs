@@ -2,14 +2,11 @@
 //! the lines 'prior ...' of a recorded day. docs/PRIORS.md tells how they are used, and how the
 //! priors of a goko tree are made.
 
-use crate::day::{Day, MAX_LAST};
+use crate::day::{Day, MAX_CHILDREN, MAX_LAST, MAX_PRIORS, MAX_PRIOR_CHILDREN};
+use crate::words::number;
 use std::collections::BTreeMap;
 use std::fmt::Write;
 use teakpool::Address;
-
-const MAX_NODES: usize = 4_096;
-const MAX_CHILDREN: usize = 16_384;
-const MAX_CHAIN: usize = 64;
 
 /// What the paths did at a node.
 #[derive(Default)]
@@ -54,7 +51,8 @@ impl GoodDays {
         if !too_much.is_empty() {
             return Err(too_much);
         }
-        let mut text = format!("# Priors by the counts of {} paths; good days: {}\n", self.paths, self.days);
+        let paths = number(self.paths, "path");
+        let mut text = format!("# Priors by the counts of {}; good days: {}\n", paths, self.days);
         for (node, counts) in &self.nodes {
             // Writing to a String cannot fail.
             let _ = write!(text, "prior {} {}", node, counts.ends);
@@ -69,26 +67,26 @@ impl GoodDays {
     /// What passes the limits of priors.
     fn too_much(&self) -> Vec<String> {
         let mut too_much = Vec::new();
-        if self.nodes.len() > MAX_NODES {
+        if self.nodes.len() > MAX_PRIORS {
             too_much.push(format!(
                 "the paths have {} nodes; priors have at most {}",
                 self.nodes.len(),
-                MAX_NODES
+                MAX_PRIORS
             ));
         }
         let children: usize = self.nodes.values().map(|counts| counts.children.len()).sum();
-        if children > MAX_CHILDREN {
+        if children > MAX_PRIOR_CHILDREN {
             too_much.push(format!(
                 "the paths have {} transitions; priors have at most {}",
-                children, MAX_CHILDREN
+                children, MAX_PRIOR_CHILDREN
             ));
         }
         for (node, counts) in &self.nodes {
-            if counts.children.len() > MAX_CHAIN {
+            if counts.children.len() > MAX_CHILDREN {
                 let children = counts.children.len();
                 too_much.push(format!(
                     "{} goes on to {} children; a prior has at most {}",
-                    node, children, MAX_CHAIN
+                    node, children, MAX_CHILDREN
                 ));
             }
             if counts.total() >= MAX_LAST as u64 {

@@ -1,7 +1,7 @@
 //! Tells on a terminal how far long work has come: one line, written anew once a second and
 //! cleared at the end. Where standard error is no terminal nothing is told.
 
-use std::io::IsTerminal;
+use std::io::{IsTerminal, Write};
 use std::sync::mpsc;
 use std::time::{Duration, Instant};
 
@@ -12,9 +12,9 @@ fn on_terminal() -> bool {
     std::io::stderr().is_terminal()
 }
 
-/// Writes the line anew.
+/// Writes the line anew; where nobody can read it there is nothing to be done.
 fn tell(text: &str) {
-    eprint!("\r\x1b[K{}", text);
+    let _ = write!(std::io::stderr(), "\r\x1b[K{}", text);
 }
 
 /// Work that goes in steps.

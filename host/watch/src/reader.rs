@@ -3,8 +3,13 @@
 //! only because of an earlier one is not told again.
 
 use crate::checks;
-use crate::day::{Day, Numbers, Prior, Setting, TableRule, MAX_ENTRIES, MAX_LAST};
+use crate::day::{
+    Day, Numbers, Prior, Setting, TableRule, MAX_CHILDREN, MAX_ENTRIES, MAX_LAST, MAX_PRIORS,
+    MAX_PRIOR_CHILDREN,
+};
 use crate::mistakes::{Mistakes, Problem};
+use crate::plain::{is_obeyed, is_other_break};
+use crate::words::number;
 use std::collections::BTreeMap;
 use std::fmt::Display;
 use std::str::{FromStr, SplitWhitespace};
@@ -13,9 +18,6 @@ use teakpool::Address;
 const MAX_STEPS: usize = 64;
 const MAX_SEQUENCES: usize = 64;
 const MAX_PATHS: usize = 65_536;
-const MAX_CHILDREN: usize = 64;
-const MAX_PRIORS: usize = 4_096;
-const MAX_PRIOR_CHILDREN: usize = 16_384;
 const MAX_WINDOW: u32 = 1_024;
 /// 2^40: table entries from index 1 on lie between this and its negative.
 const MAX_TABLE_ENTRY: f64 = 1_099_511_627_776.0;
@@ -78,9 +80,8 @@ fn lines_of(bytes: &[u8]) -> Reader {
         return reader;
     }
     let bytes = bytes.strip_prefix(BYTE_ORDER_MARK).unwrap_or(bytes);
-    let bytes = bytes.strip_suffix(b"\n").unwrap_or(bytes);
     let mut last = 1;
-    for (index, line) in bytes.split(|byte| *byte == b'\n').enumerate() {
+    for (index, line) in split(bytes).enumerate() {
         last = index + 1;
         if let Err(text) = reader.bytes(last, line) {
             reader.mistakes.add(last, text);
@@ -94,6 +95,13 @@ fn lines_of(bytes: &[u8]) -> Reader {
     reader
 }
 
+/// The lines of a file; a line ends with a line feed, a carriage return or both.
+fn split(bytes: &[u8]) -> impl Iterator<Item = &[u8]> {
+    let bytes = bytes.strip_suffix(b"\n").unwrap_or(bytes);
+    let lines = bytes.split(|byte| *byte == b'\n');
+    lines.flat_map(|line| line.strip_suffix(b"\r").unwrap_or(line).split(|byte| *byte == b'\r'))
+}
+
 impl Reader {
     fn done(self) -> Result<Day, Mistakes> {
         match self.mistakes.none() {
@@ -105,7 +113,16 @@ impl Reader {
     /// A line as it lies in the file.
     fn bytes(&mut self, number: usize, line: &[u8]) -> Result<(), String> {
         match std::str::from_utf8(line) {
-            Ok(text) => self.line(number, text),
+            Ok(text) => {
+                let taken = self.line(number, text);
+                match text.chars().find(|letter| is_other_break(*letter)) {
+                    Some(letter) => Err(format!(
+                        "the line has another kind of line end in it, {}",
+                        letter.escape_unicode()
+                    )),
+                    None => taken,
+                }
+            }
             Err(error) => {
                 // What can be read of it counts for the lines behind it.
                 let _ = self.line(number, &String::from_utf8_lossy(line));
@@ -229,11 +246,7 @@ impl Reader {
     fn name(&mut self, line: usize, words: &mut SplitWhitespace) -> Result<(), String> {
         let node = address(words.next())?;
         self.once(format!("name {}", node), line)?;
-        let name = text(words)?;
-        if name.is_empty() {
-            return Err(wanted("a name", None));
-        }
-        self.day.names.insert(node, name);
+        self.day.names.insert(node, text(words, "a name")?);
         Ok(())
     }
 
@@ -250,11 +263,21 @@ impl Reader {
         }
     }
 
-    /// All sequences have as many paths as the first.
+    /// All sequences have paths, and as many as the first that has some.
     fn whole_sequences(&mut self) {
-        let first = self.sequences.first().map_or(0, |(_, paths)| *paths);
-        for (line, paths) in self.sequences.iter().filter(|(_, paths)| *paths != first) {
-            let text = format!("the sequence of line {} has {} paths, the first one {}", line, paths, first);
+        let lengths = || self.sequences.iter().map(|(_, paths)| *paths);
+        let first = lengths().find(|paths| *paths > 0).unwrap_or(0);
+        for (line, paths) in &self.sequences {
+            let text = match *paths {
+                0 => format!("the sequence of line {} has no path", line),
+                paths if paths != first => format!(
+                    "the sequence of line {} has {}, the first one {}",
+                    line,
+                    number(paths, "path"),
+                    first
+                ),
+                _ => continue,
+            };
             self.mistakes.add(*line, text);
         }
     }
@@ -264,7 +287,7 @@ impl Reader {
             words.by_ref().for_each(drop);
             return Err("marks stand in the day".to_string());
         }
-        let text = text(words)?;
+        let text = text(words, "the text of a mark")?;
         self.day.marks.push((self.day.paths.len(), text));
         Ok(())
     }
@@ -324,10 +347,11 @@ fn table_entry(table: &mut Vec<f64>, word: &str) -> Result<(), String> {
 }
 
 /// The rest of a line as a text that can be printed.
-fn text(words: &mut SplitWhitespace) -> Result<String, String> {
+fn text(words: &mut SplitWhitespace, what: &str) -> Result<String, String> {
     let text = words.collect::<Vec<&str>>().join(" ");
-    match text.chars().find(|letter| letter.is_control()) {
+    match text.chars().find(|letter| is_obeyed(*letter)) {
         Some(letter) => Err(format!("the text has a control character, {}", letter.escape_unicode())),
+        None if text.is_empty() => Err(wanted(what, None)),
         None => Ok(text),
     }
 }
@@ -336,7 +360,7 @@ fn text(words: &mut SplitWhitespace) -> Result<String, String> {
 /// terminal would obey.
 fn shown(word: &str) -> String {
     let mut shown: String =
-        word.chars().take(40).map(|letter| if letter.is_control() { '?' } else { letter }).collect();
+        word.chars().take(40).map(|letter| if is_obeyed(letter) { '?' } else { letter }).collect();
     if word.chars().nth(40).is_some() {
         shown.push_str("..");
     }
@@ -428,7 +452,7 @@ mod tests {
         let drift = "a number of deviations, 0 or more, is wanted, not 'NaN'";
         assert_eq!(problem(with_day("\ndrift NaN")), (2, drift.to_string()));
         let unequal = "sequence\npath 1/0\nsequence\nday\npath 1/0";
-        assert_eq!(problem(unequal), (3, "the sequence of line 3 has 0 paths, the first one 1".to_string()));
+        assert_eq!(problem(unequal), (3, "the sequence of line 3 has no path".to_string()));
     }
 
     #[test]
@@ -482,6 +506,26 @@ mod tests {
     }
 
     #[test]
+    fn no_line_end_swallows_a_line() {
+        for text in ["day\rmark a\rpath 1/0\r# b\rpath 1/0\r", "day\nmark a\rpath 1/0\n# b\rpath 1/0"] {
+            let day = read(text.as_bytes()).unwrap();
+            assert_eq!((day.paths.len(), day.mark_at(0), day.paths.line(1)), (2, Some("a"), 5), "{:?}", text);
+        }
+        assert_eq!(problem("day\npath 1/0\nmark a\rb").0, 4);
+        for (end, shown) in [("\u{2028}", "2028"), ("\u{85}", "85"), ("\u{b}", "b"), ("\u{c}", "c")] {
+            let text = format!("the line has another kind of line end in it, \\u{{{}}}", shown);
+            assert_eq!(problem(format!("day\npath 1/0\n# b{}path 1/0", end)), (3, text));
+        }
+    }
+
+    #[test]
+    fn a_sequence_has_paths() {
+        let text = "the sequence of line 1 has no path".to_string();
+        assert_eq!(problem(with_day("sequence")), (1, text.clone()));
+        assert_eq!(problem(with_day("sequence\nsequence\npath 1/0\n")), (1, text));
+    }
+
+    #[test]
     fn names_and_marks_are_texts() {
         let day = read(with_day("name 1/0 the  wheel # not this\nname -1/7 ö").as_bytes()).unwrap();
         let names: Vec<String> = day.names.iter().map(|(node, name)| format!("{} {}", node, name)).collect();
@@ -490,6 +534,8 @@ mod tests {
         let text = "the text has a control character, \\u{1b}";
         assert_eq!(problem(with_day("name 1/0 a\x1b[2J")), (1, text.to_string()));
         assert_eq!(problem("day\npath 1/0\nmark \x1b"), (3, text.to_string()));
+        assert_eq!(problem("day\npath 1/0\nmark").1, "the text of a mark is wanted, and the line ends");
+        assert_eq!(problem("day\npath 1/0\nmark a\u{202e}b").0, 3);
         assert_eq!(problem(with_day("mark early")).1, "marks stand in the day");
         let shown = "'wind?ow' begins no line of a recorded day; --help has the list";
         assert_eq!(problem(with_day("wind\x07ow")).1, shown);
@@ -549,6 +595,15 @@ mod tests {
         assert!(read(held(5).as_bytes()).is_ok());
         let text = "a capacity of 4 is too small: the paths need 5 entries".to_string();
         assert_eq!(problem(held(4)), (1, text));
+        // A path that is left out needs none: 1/0 does not go on to 0/2 by its prior, and at 0/1 the
+        // second path passes the tables' end.
+        let left_out = |entries: u32, path: &str| {
+            let priors = "tables squares 7\nprior 1/0 1 0/1 2\nprior 0/1 6\n";
+            format!("capacity {}\n{}day\npath 1/0 0/1\npath {}", entries, priors, path)
+        };
+        assert!(read(left_out(3, "1/0 0/2 -1/0").as_bytes()).is_ok());
+        assert!(read(left_out(3, "2/0 0/1").as_bytes()).is_ok());
+        assert_eq!(problem(left_out(3, "2/0 1/0")).0, 1);
     }
 
     #[test]

@@ -1,7 +1,8 @@
 //! What the archive refuses in a day, as the line to look at and what is wrong there. The reader
 //! has tested all that shows in a line; left over is what grows with the paths.
 
-use crate::day::{Day, MAX_ENTRIES};
+use crate::checks::no_room;
+use crate::day::{Day, MAX_DAY_PATHS, MAX_ENTRIES};
 use crate::mistakes::Problem;
 use teakpool::{Address, Refusal};
 
@@ -9,7 +10,7 @@ use teakpool::{Address, Refusal};
 pub fn told(day: &Day, last_index: u64, line: usize) -> impl Fn(Refusal) -> Problem + '_ {
     move |refusal| {
         let text = match refusal {
-            Refusal::PathsFull => "a day has at most 16777216 paths".to_string(),
+            Refusal::PathsFull => format!("a day has at most {} paths", MAX_DAY_PATHS),
             Refusal::BookFull => format!(
                 "up to this path there are over {} nodes and transitions, more than a book holds",
                 MAX_ENTRIES
@@ -24,14 +25,7 @@ pub fn told(day: &Day, last_index: u64, line: usize) -> impl Fn(Refusal) -> Prob
 /// The prior is to blame where its counts alone leave no room for a path.
 fn past_table(day: &Day, last_index: u64, line: usize, node: Address) -> Problem {
     match day.priors.get(&node).filter(|prior| prior.total() >= last_index) {
-        Some(prior) => {
-            let text = format!(
-                "the counts of this prior come to {}, and the last index of the tables is {}",
-                prior.total(),
-                last_index
-            );
-            Problem { line: prior.line, text }
-        }
+        Some(prior) => Problem { line: prior.line, text: no_room(prior, last_index) },
         None => {
             let text = format!(
                 "the counts of {}, in its prior and in the paths up to this one, pass {}, \

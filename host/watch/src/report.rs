@@ -2,10 +2,10 @@
 
 use crate::day::Day;
 use crate::facts;
-use crate::stretches::Stretch;
+use crate::findings;
 use crate::usual::Held;
 use crate::watched::{Judged, Reading, Watched};
-use crate::words::{self, SHOWN};
+use crate::words;
 use std::fmt::Write;
 use teakpool::MeanVariance;
 
@@ -29,10 +29,8 @@ type Written = std::fmt::Result;
 
 fn head(text: &mut String, name: &str, day: &Day, watched: &Watched) -> Written {
     writeln!(text, "The day {}: {}", name, words::verdict(watched.verdict()))?;
-    for fact in facts::facts(day, watched) {
-        writeln!(text, "  {}", fact)?;
-    }
-    facts::warnings(day, watched).iter().try_for_each(|warning| writeln!(text, "  warning: {}", warning))
+    lines(text, facts::facts(day, watched))?;
+    lines(text, facts::warnings(day, watched))
 }
 
 /// Sum and maximum through the day, beside the baseline's means.
@@ -72,6 +70,7 @@ fn row(text: &mut String, index: usize, reading: &Reading, watched: &Watched) ->
     let sign = match judged {
         Judged::Calm => "",
         Judged::Drift(_) => " *",
+        Judged::Often(_) => " * too often",
         Judged::Not(_) => " ?",
     };
     let sum = beside(stats.sum, figures.map(|figures| figures.sum), *sum);
@@ -83,58 +82,46 @@ fn row(text: &mut String, index: usize, reading: &Reading, watched: &Watched) ->
 fn drift(text: &mut String, day: &Day, watched: &Watched) -> Written {
     writeln!(text, "\nWhere it drifts")?;
     if watched.stretches.is_empty() {
-        writeln!(text, "  {}", words::nowhere(day, watched))?;
+        writeln!(text, "  {}", findings::nowhere(day, watched))?;
     }
-    let (shown, more) = worst(&watched.stretches);
+    let (shown, more) = findings::worst(&watched.stretches);
     for stretch in shown {
-        let lines = words::stretch(day, watched, stretch);
+        let lines = findings::stretch(day, watched, stretch);
         writeln!(text, "  {}", lines.join("\n    "))?;
     }
-    match more {
-        0 => {}
-        more => writeln!(text, "  and {}, none of them worse", words::number(more, "more stretch"))?,
-    }
-    for part in watched.unjudged().iter().take(SHOWN) {
-        writeln!(text, "  {}", words::part(day, watched, part))?;
-    }
-    match watched.unjudged().len().saturating_sub(SHOWN) {
-        0 => Ok(()),
-        more => writeln!(text, "  and {} are not judged", words::number(more, "more part")),
-    }
-}
-
-/// The worst stretches in the day's order, and how many more there are.
-pub fn worst(stretches: &[Stretch]) -> (Vec<&Stretch>, usize) {
-    let mut worst: Vec<&Stretch> = stretches.iter().collect();
-    worst.sort_by(|one, other| other.deviations.total_cmp(&one.deviations));
-    worst.truncate(SHOWN);
-    worst.sort_by_key(|stretch| stretch.first);
-    (worst, stretches.len().saturating_sub(SHOWN))
+    let below = more.into_iter().chain(findings::below_stretches(day, watched));
+    lines(text, below)
 }
 
 /// What no good day has done.
 fn never_seen(text: &mut String, day: &Day, watched: &Watched) -> Written {
-    let Some((title, found, more)) = words::never_seen(watched) else {
+    let Some((title, found)) = findings::never_seen(day, watched) else {
         return Ok(());
     };
     writeln!(text, "\n{}", title)?;
-    found.iter().try_for_each(|found| writeln!(text, "  {}", words::found(day, found)))?;
-    match more {
-        0 => Ok(()),
-        more => writeln!(text, "  and {} of it", words::number(more, "more kind")),
-    }
+    lines(text, found)
+}
+
+/// Lines below a title.
+fn lines(text: &mut String, lines: impl IntoIterator<Item = String>) -> Written {
+    lines.into_iter().try_for_each(|line| writeln!(text, "  {}", line))
 }
 
 /// The divergences by node, greatest first.
 fn nodes(text: &mut String, day: &Day, watched: &Watched) -> Written {
-    writeln!(text, "\nBy node, {}: divergence and what has moved most", words::when(day, watched))?;
+    writeln!(
+        text,
+        "\nBy node, {}: divergence, its mean in the training, and what has moved most",
+        words::when(day, watched)
+    )?;
     let width = watched.nodes.iter().map(|moved| words::node(day, moved.node).chars().count()).max();
     let width = width.unwrap_or(0).max(12);
     for moved in &watched.nodes {
-        let (node, divergence) = (words::node(day, moved.node), words::figure(moved.divergence));
-        writeln!(text, "  {:<width$} {:>10}   {}", node, divergence, words::share(day, moved))?;
+        let [divergence, usual] = words::divergence(moved);
+        let (node, share) = (words::node(day, moved.node), words::share(day, moved));
+        writeln!(text, "  {:<width$} {:>10} {:>10}   {}", node, divergence, usual, share)?;
     }
-    words::other_nodes(watched).iter().try_for_each(|line| writeln!(text, "  {}", line))
+    lines(text, words::other_nodes(watched))
 }
 
 /// The five figures of the last reading beside the baseline's means and variances.

@@ -1,5 +1,6 @@
 //! The baseline: trained on the sequences of a day's file, and what is usual at a length by it.
 
+use crate::by_node::ByNode;
 use crate::counts::Counts;
 use crate::day::{Day, Paths, MAX_KNOTS};
 use crate::lent::Lent;
@@ -12,6 +13,8 @@ use teakpool::{place_bytes, Baseline, Refusal, Sequences, Tracker, KNOT_VALUES};
 
 /// Knots that a training has where no rate is given, if the last path can be one of them.
 const KNOTS: usize = 128;
+/// Trainings of more paths are not run a second time.
+const LONG: usize = 1_000_000;
 
 /// A baseline, and the size of its training.
 pub struct Trained {
@@ -25,6 +28,8 @@ pub struct Trained {
     pub greatest_index: u64,
     /// How far the sequences go when they are held against each other.
     pub others: Option<Others>,
+    /// What is usual for each node.
+    pub by_node: Option<ByNode>,
 }
 
 impl Trained {
@@ -59,13 +64,34 @@ pub fn train(day: &Day, lent: &mut Lent, book: &mut [u8]) -> Result<Option<Train
     let told_at = |refusal| told(day, lent.last_index(), day.sequences[0].line(0))(refusal);
     match trained {
         Ok((knots, values)) => {
-            let (greatest_index, others) = (index, None);
-            let mut trained = Trained { sequences, paths, rate, knots, values, greatest_index, others };
-            trained.others = against_others(day, lent, book, &trained).map_err(told_at)?;
+            let (greatest_index, others, by_node) = (index, None, None);
+            let mut trained =
+                Trained { sequences, paths, rate, knots, values, greatest_index, others, by_node };
+            if day.sequences.len() * day.training_paths() <= LONG {
+                trained.others = against_others(day, lent, book, &trained).map_err(told_at)?;
+                trained.by_node = Some(ByNode::of(day, lent, book, &trained).map_err(told_at)?);
+            }
             Ok(Some(trained))
         }
         Err(refusal) => Err(where_stopped(day, lent, book, rate, refusal)),
     }
+}
+
+/// Adds the paths of a sequence one by one, and calls `at` at each knot with its number.
+pub fn at_knots(
+    sequence: &Paths,
+    book: &mut [u8],
+    rate: u32,
+    mut at: impl FnMut(usize, &Tracker) -> Result<(), Refusal>,
+) -> Result<(), Refusal> {
+    let mut tracker = Tracker::open(0, book, &mut [])?;
+    sequence.iter().enumerate().try_for_each(|(index, steps)| {
+        add(&mut tracker, steps)?;
+        match index % rate as usize {
+            0 => at(index / rate as usize, &tracker),
+            _ => Ok(()),
+        }
+    })
 }
 
 /// The greatest index that the tables are read at in a sequence.

@@ -3,7 +3,8 @@
 //! At the knots and between them mean and variance are the library's. Past the last knot its line
 //! through the last two is too rough to judge by: it follows the chance of a few paths, and its
 //! variance soon falls below 0. There the mean goes on along the line from the middle knot to the
-//! last, and the variance grows in proportion to the length, as far as eight times the last knot.
+//! last, but does not fall, and the variance grows in proportion to the length, as far as eight
+//! times the last knot. Drift can be found by that; that there is none cannot be said by it.
 //! docs/REPORT.md has what was measured of this.
 
 use crate::training::Trained;
@@ -13,6 +14,9 @@ use teakpool::{BaselineStats, MeanVariance};
 pub const FAR: u32 = 8;
 /// Sequences whose spread is below this share of their mean are alike but for rounding.
 const ALIKE: f64 = 1.0e-6;
+/// A difference below this share of the mean is rounding, and so is one below this number.
+const ROUNDING_SHARE: f64 = 1.0e-9;
+const ROUNDING: f64 = 1.0e-12;
 
 /// Why a reading cannot be judged.
 #[derive(Debug, Clone, Copy, PartialEq, Eq, PartialOrd, Ord)]
@@ -25,8 +29,13 @@ pub enum Why {
     OneKnot,
     /// The length is far past the last knot.
     TooFar,
-    /// The training's figures do not differ at this length, or are not finite.
+    /// The training's figures do not differ at this length and one of the day's lies above them,
+    /// or they are not finite.
     NoSpread,
+    /// The length is past the last knot, and no drift is found by what is carried on.
+    CarriedOn,
+    /// What good days do seldom is done more often, but not by enough to call it drift.
+    MoreOften,
     /// No node with a prior is in the window.
     NothingWatched,
 }
@@ -37,11 +46,36 @@ pub enum Why {
 pub struct Usual {
     pub figures: Option<BaselineStats>,
     pub unusable: Option<Why>,
+    /// The figures are not trained but carried on.
+    pub carried_on: bool,
 }
 
 impl Usual {
     /// Without a baseline.
-    pub const UNKNOWN: Usual = Usual { figures: None, unusable: Some(Why::NoBaseline) };
+    pub const UNKNOWN: Usual = Usual { figures: None, unusable: Some(Why::NoBaseline), carried_on: false };
+}
+
+/// What is usual at the length that was asked for last: a full window asks for one over and over.
+pub struct UsualAt<'a> {
+    trained: Option<&'a Trained>,
+    pub length: u64,
+    usual: Usual,
+}
+
+impl<'a> UsualAt<'a> {
+    /// Of a training, if there is one; nothing is asked for yet.
+    pub fn new(trained: Option<&'a Trained>) -> UsualAt<'a> {
+        UsualAt { trained, length: 0, usual: Usual::UNKNOWN }
+    }
+
+    /// What is usual at a length.
+    pub fn at(&mut self, length: u64) -> Usual {
+        if self.length != length {
+            let usual = self.trained.map_or(Usual::UNKNOWN, |trained| trained.usual(length));
+            (self.length, self.usual) = (length, usual);
+        }
+        self.usual
+    }
 }
 
 /// How a figure is held against what is usual.
@@ -80,7 +114,7 @@ impl Trained {
             _ if length > u64::from(FAR) * last => Some(Why::TooFar),
             _ => None,
         };
-        Usual { figures, unusable }
+        Usual { figures, unusable, carried_on: length > last }
     }
 
     /// Mean and variance past the last knot.
@@ -89,48 +123,61 @@ impl Trained {
         let middle = self.baseline().stats(middle_knot).ok()?;
         let last = self.baseline().stats(self.last_knot()).ok()?;
         let knots = [f64::from(middle_knot), f64::from(self.last_knot())];
-        let on = |of: fn(&BaselineStats) -> MeanVariance| {
-            carried_figure(knots, [of(&middle), of(&last)], length as f64)
+        let on = |of: fn(&BaselineStats) -> MeanVariance, least_slope: f64| {
+            carried_figure(knots, [of(&middle), of(&last)], length as f64, least_slope)
         };
         Some(BaselineStats {
-            maximum: on(|stats| stats.maximum),
-            minimum: on(|stats| stats.minimum),
-            number: on(|stats| stats.number),
-            sum: on(|stats| stats.sum),
-            sum_of_squares: on(|stats| stats.sum_of_squares),
+            maximum: on(|stats| stats.maximum, 0.0),
+            minimum: on(|stats| stats.minimum, f64::MIN),
+            number: on(|stats| stats.number, 0.0),
+            sum: on(|stats| stats.sum, 0.0),
+            sum_of_squares: on(|stats| stats.sum_of_squares, 0.0),
         })
     }
 }
 
-/// One figure of these; not finite where it is not at the middle knot.
-fn carried_figure(knots: [f64; 2], [middle, last]: [MeanVariance; 2], length: f64) -> MeanVariance {
-    if !middle.variance.is_finite() {
+/// One figure of these; not finite where it is not at both knots. Of more paths only the
+/// minimum is less, and no divergence is below 0.
+pub fn carried_figure(
+    knots: [f64; 2],
+    [middle, last]: [MeanVariance; 2],
+    length: f64,
+    least_slope: f64,
+) -> MeanVariance {
+    if !(middle.variance.is_finite() && last.variance.is_finite()) {
         return MeanVariance { mean: f64::NAN, variance: f64::NAN };
     }
-    let slope = (last.mean - middle.mean) / (knots[1] - knots[0]);
-    let mean = last.mean + slope * (length - knots[1]);
+    let slope = ((last.mean - middle.mean) / (knots[1] - knots[0])).max(least_slope);
+    let mean = (last.mean + slope * (length - knots[1])).max(0.0);
     MeanVariance { mean, variance: last.variance * length / knots[1] }
+}
+
+/// What a spread around this mean has to pass to be more than rounding.
+fn least_spread(mean: f64) -> f64 {
+    (ALIKE * mean.abs()).max(ROUNDING)
 }
 
 /// The spread, a standard deviation, where one can judge by it.
 pub fn spread(usual: MeanVariance) -> Option<f64> {
     let spread = usual.variance.sqrt();
-    Some(spread).filter(|spread| spread.is_finite() && *spread > ALIKE * usual.mean.abs())
+    Some(spread).filter(|spread| spread.is_finite() && *spread > least_spread(usual.mean))
 }
 
 /// Holds a figure against its mean and variance.
 pub fn hold(figure: f64, usual: MeanVariance) -> Held {
-    let margin = ALIKE * usual.mean.abs();
+    let (above, least) = (figure - usual.mean, least_spread(usual.mean));
+    let rounding = (ROUNDING_SHARE * usual.mean.abs()).max(ROUNDING);
     match spread(usual) {
-        Some(spread) => Held::By((figure - usual.mean) / spread),
-        None if usual.variance.abs() <= margin * margin && figure <= usual.mean + margin => Held::NotAbove,
+        Some(_) if above.abs() <= rounding => Held::By(0.0),
+        Some(spread) => Held::By(above / spread),
+        None if usual.variance.abs() <= least * least && above <= least => Held::NotAbove,
         None => Held::Not,
     }
 }
 
 #[cfg(test)]
 mod tests {
-    use super::{hold, spread, Held, Trained, Usual, Why};
+    use super::{carried_figure, hold, spread, Held, Trained, Usual, Why};
     use teakpool::MeanVariance;
 
     /// Two sequences whose sums at each knot are given; the other figures are 0.
@@ -148,6 +195,7 @@ mod tests {
             values: knots.iter().flat_map(values).collect(),
             greatest_index: 1,
             others: None,
+            by_node: None,
         }
     }
 
@@ -175,10 +223,20 @@ mod tests {
     }
 
     #[test]
+    fn past_the_last_knot_the_mean_does_not_fall() {
+        // From 5 at 6 to 2 at 11: on that line it is below 0 at 22.
+        let falls = trained(&[(1, 1.0, 3.0), (6, 4.0, 6.0), (11, 1.0, 3.0)]);
+        assert_eq!(sum(falls.usual(22)), MeanVariance { mean: 2.0, variance: 2.0 });
+        let usual = |mean: f64| MeanVariance { mean, variance: 1.0 };
+        let minimum = |length: f64| carried_figure([6.0, 11.0], [usual(5.0), usual(2.0)], length, f64::MIN);
+        assert_eq!((minimum(13.0).mean, minimum(22.0).mean), (2.0 - 2.0 * 3.0 / 5.0, 0.0));
+    }
+
+    #[test]
     fn without_a_second_sequence_or_knot_nothing_is_judged() {
         let one_knot = trained(&[(1, 1.0, 3.0)]);
         assert_eq!(one_knot.usual(1).unusable, None);
-        assert_eq!(one_knot.usual(2), Usual { figures: None, unusable: Some(Why::OneKnot) });
+        assert_eq!((one_knot.usual(2).figures, one_knot.usual(2).unusable), (None, Some(Why::OneKnot)));
         let one_sequence = Trained { sequences: 1, ..trained(&[(1, 1.0, 0.0), (2, 2.0, 0.0)]) };
         assert_eq!(one_sequence.usual(2).unusable, Some(Why::OneSequence));
         assert_eq!(sum(one_sequence.usual(2)).mean, 2.0);
@@ -196,6 +254,11 @@ mod tests {
             assert_eq!(hold(0.31, usual(0.3, variance)), Held::Not);
         }
         assert_eq!(hold(0.0, usual(0.0, 0.0)), Held::NotAbove);
+        // Around a mean of nearly 0 a share of it is nothing.
+        assert_eq!(hold(1.0e-15, usual(1.0e-16, 1.0e-32)), Held::NotAbove);
+        assert_eq!(hold(1.0e-3, usual(1.0e-16, 1.0e-32)), Held::Not);
+        // Nor is a difference by rounding one that lies above.
+        assert_eq!(hold(0.1 + 0.2, usual(0.3, 1.0)), Held::By(0.0));
         // A variance below 0 that is no rounding, and knots without a divergence.
         assert_eq!(hold(1.0, usual(2.0, -1.0)), Held::Not);
         assert_eq!(hold(1.0, usual(f64::MIN, f64::INFINITY)), Held::Not);

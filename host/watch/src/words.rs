@@ -1,12 +1,9 @@
-//! What the report and the page say in the same words.
+//! What the report and the page say in the same words: numbers, figures, nodes and paths.
 
-use crate::day::{Day, MAX_ENTRIES};
-use crate::known::{Found, NeverSeen};
+use crate::day::Day;
 use crate::moved::{Moved, Share};
-use crate::stretches::{End, Stretch};
-use crate::training::Trained;
-use crate::usual::{hold, Held, Why, FAR};
-use crate::watched::{LeftOut, Part, Place, Reading, Tally, Unjudged, Verdict, Watched};
+use crate::usual::{hold, Held};
+use crate::watched::{Reading, Verdict, Watched};
 use teakpool::{Address, BaselineStats, MeanVariance};
 
 /// Stretches, findings and parts that are shown; more are counted.
@@ -46,138 +43,20 @@ pub fn at(day: &Day, index: usize) -> String {
     format!("path {} (line {}{})", index + 1, day.paths.line(index), mark)
 }
 
-/// What stands where no stretch is found.
-pub fn nowhere(day: &Day, watched: &Watched) -> String {
-    match (watched.tally(), watched.found.is_empty()) {
-        (Tally { unjudged: 0, left_out: 0, .. }, _) => {
-            format!("nowhere: no reading is more than {} deviations above", day.drift)
-        }
-        (Tally { judged: 0, .. }, _) => "not known: nothing could be judged".to_string(),
-        (Tally { judged, .. }, true) => {
-            format!("none found in the {} judged", number(judged, "reading"))
-        }
-        (Tally { judged, .. }, false) => {
-            format!("in no reading of the {} judged, but see what was never seen", judged)
-        }
-    }
-}
-
-/// A stretch: from where to where, its worst reading, and the node to look at.
-pub fn stretch(day: &Day, watched: &Watched, stretch: &Stretch) -> Vec<String> {
-    let earlier = if stretch.maybe_earlier { ", or earlier," } else { "" };
-    let (first, last) = (at(day, stretch.first), at(day, stretch.last));
-    let end = match stretch.end {
-        End::Over => String::new(),
-        End::DayEnds => ", the end of the day".to_string(),
-        End::NotKnown(index) => {
-            format!(" at least: from path {} on it is not judged, and its end is not known", index + 1)
-        }
-    };
-    let range = match stretch.first == stretch.last {
-        true => format!("at {}{}{}", first, earlier.trim_end_matches(','), end),
-        false => format!("from {}{} to {}{}", first, earlier, last, end),
-    };
-    let others = watched.trained.as_ref().and_then(|trained| trained.others);
-    let beside = match others.is_some_and(|others| stretch.deviations <= others.most) {
-        true => ", no further than a training sequence goes",
-        false => "",
-    };
-    let worst = at(day, stretch.worst);
-    let mut lines = vec![range];
-    lines.push(format!("worst after {}: {:.1} deviations above{}", worst, stretch.deviations, beside));
-    lines.extend(stretch.moved.as_ref().map(|moved| format!("look at {}", moved_text(day, moved))));
-    lines
-}
-
-/// What was never seen, and where.
-pub fn found(day: &Day, found: &Found) -> String {
-    let what = match found.what {
-        NeverSeen::Child { node: parent, child } => {
-            format!("{} goes on to {}, which its prior does not have", node(day, parent), node(day, child))
-        }
-        NeverSeen::Ending { node: last } => {
-            format!("ends at {}, where by the prior and in the training none ends", node(day, last))
-        }
-        NeverSeen::Unwatched { begins } => {
-            format!("begins at {} and meets no node that has a prior", node(day, begins))
-        }
-    };
-    let place = format!("{}, step {}", at(day, found.first), found.step + 1);
-    match found.paths {
-        1 => format!("{}: {}", place, what),
-        paths => {
-            format!(
-                "{}, and {} up to {}: {}",
-                place,
-                number(paths - 1, "more path"),
-                at(day, found.last),
-                what
-            )
-        }
-    }
-}
-
-/// What is not judged, and why.
-pub fn part(day: &Day, watched: &Watched, part: &Part) -> String {
-    let (first, last) = (part.first + 1, part.last + 1);
-    let place = match part {
-        Part { gapless: true, to_the_end: true, .. } => format!("from path {} on", first),
-        Part { gapless: true, paths: 1, .. } => format!("at path {}", first),
-        Part { gapless: true, .. } => format!("from path {} to path {}", first, last),
-        Part { paths, .. } => format!("at {} from path {} to path {}", number(*paths, "path"), first, last),
-    };
-    format!("not judged {}: {}", place, reason(day, watched, part.why))
-}
-
-fn reason(day: &Day, watched: &Watched, why: Unjudged) -> String {
-    let last = watched.trained.as_ref().map_or(0, Trained::last_knot);
-    match why {
-        Unjudged::Reading(Why::NoBaseline) => "there are no training sequences".to_string(),
-        Unjudged::Reading(Why::OneSequence) => {
-            "no usable spread (there is one training sequence)".to_string()
-        }
-        Unjudged::Reading(Why::OneKnot) => {
-            format!("no usable spread (the training has one knot, at length {})", last)
-        }
-        Unjudged::Reading(Why::TooFar) => {
-            format!("no usable spread (over {} times the length of the last knot, {})", FAR, last)
-        }
-        Unjudged::Reading(Why::NoSpread) => {
-            "no usable spread (the training sequences are alike there, or have no divergence)".to_string()
-        }
-        Unjudged::Reading(Why::NothingWatched) => "no node that has a prior is in the window".to_string(),
-        Unjudged::LeftOut(LeftOut::NeverSeen) => "left out, since it was never seen".to_string(),
-        Unjudged::LeftOut(LeftOut::PastTables(address)) => format!(
-            "left out, since the counts of {} would pass {}, where the tables end",
-            node(day, address),
-            day.tables.last_index()
-        ),
-        Unjudged::LeftOut(LeftOut::BookFull) => format!(
-            "left out, since the book is full: it holds {} nodes and transitions",
-            day.capacity.map_or(MAX_ENTRIES, |capacity| capacity.value)
-        ),
-        Unjudged::LeftOut(LeftOut::PathsFull) => {
-            "left out, since a tracker takes 16777216 paths at most".to_string()
-        }
-    }
-}
-
-/// A node, its divergence and what has moved most.
-fn moved_text(day: &Day, moved: &Moved) -> String {
-    let divergence = figure(moved.divergence);
-    format!("node {}, divergence {}: {}", node(day, moved.node), divergence, share(day, moved))
+/// A node's divergence, and its mean in the training.
+pub fn divergence(moved: &Moved) -> [String; 2] {
+    [figure(moved.divergence), figure(moved.usual.unwrap_or(f64::NAN))]
 }
 
 /// What has moved most at a node.
 pub fn share(day: &Day, moved: &Moved) -> String {
     match moved.most() {
         None => "nothing seen in the window".to_string(),
-        Some(share) => format!(
-            "{} {} of the time, {} by the prior",
-            way(day, share),
-            percent(share.now),
-            percent(share.prior)
-        ),
+        Some(share) => {
+            let (way, now, prior) = (way(day, share), percent(share.now), percent(share.prior));
+            let usual = share.training.map(|share| format!(", {} in the training", percent(share)));
+            format!("{} {} of the time, {} by the prior{}", way, now, prior, usual.unwrap_or_default())
+        }
     }
 }
 
@@ -203,24 +82,6 @@ pub fn figure(value: f64) -> String {
 /// Deviations, where there are any.
 pub fn deviations(value: Option<f64>) -> String {
     value.map_or("-".to_string(), |value| format!("{:+.1}", value))
-}
-
-/// What was never seen: how many paths that is, the commonest of it in the day's order, and how
-/// much more there is.
-pub fn never_seen(watched: &Watched) -> Option<(String, Vec<&Found>, usize)> {
-    if watched.found.is_empty() {
-        return None;
-    }
-    let never = |place: &&Place| matches!(place, Place::LeftOut(LeftOut::NeverSeen));
-    let title = match watched.places.iter().filter(never).count() {
-        1 => "Never seen on a good day: 1 path, which is left out of the figures".to_string(),
-        paths => format!("Never seen on a good day: {} paths, which are left out of the figures", paths),
-    };
-    let mut found: Vec<&Found> = watched.found.iter().collect();
-    found.sort_by_key(|found| std::cmp::Reverse(found.paths));
-    found.truncate(SHOWN);
-    found.sort_by_key(|found| (found.first, found.step));
-    Some((title, found, watched.found.len().saturating_sub(SHOWN)))
 }
 
 /// When the last figures are read.

@@ -1,23 +1,27 @@
 //! Runs a day through the archive: trains the baseline, adds the paths one by one, reads the
 //! statistics after each and holds them against the baseline, and notes where they drift.
 
+use crate::by_node::ByNode;
 use crate::counts::Counts;
 use crate::day::{Day, MAX_ENTRIES};
 use crate::known::{self, Known};
 use crate::lent::Lent;
 use crate::mistakes::Problem;
-use crate::moved;
+use crate::moved::{self, Moved};
 use crate::progress::Steps;
 use crate::refused::told;
+use crate::seldom::Rates;
 use crate::stretches::Stretches;
 use crate::training::{train, Trained};
-use crate::usual::Usual;
+use crate::usual::{UsualAt, Why};
 use crate::watched::{Judged, LeftOut, Place, Reading, Watched};
 use std::collections::BTreeMap;
 use teakpool::{Address, Refusal, Tracker, ENTRY_BYTES, PLACE_BYTES};
 
 /// Nodes that a report shows.
 pub const NODES: usize = 20;
+/// Paths over which it is looked how often something is done, at least.
+const RATE_WINDOW: usize = 8;
 /// Where all paths count, tables grow with the day, and a reading tests all of them. Past so many
 /// paths the readings lie the further apart the longer the day is, so that its time grows with the
 /// paths and not with their square.
@@ -44,10 +48,10 @@ pub fn watch(day: &Day) -> Result<Watched, Problem> {
         tracker,
         counts: Counts::new(day, &day.paths, day.window),
         trained: trained.as_ref(),
-        usual: (0, Usual::UNKNOWN),
+        usual: UsualAt::new(trained.as_ref()),
         stretches: Stretches::default(),
         found: BTreeMap::new(),
-        new_endings: 0,
+        rates: Rates::over(rate_window(day)),
         added: 0,
         unread: None,
     };
@@ -60,13 +64,33 @@ pub fn watch(day: &Day) -> Result<Watched, Problem> {
     if let Some(index) = run.unread {
         places[index] = run.read(index).map_err(told_at(index))?;
         if index + 1 < places.len() {
-            run.stretches.unjudged(index + 1);
+            [index + 1, places.len() - 1].into_iter().for_each(|left_out| run.stretches.unjudged(left_out));
         }
     }
     let (nodes, more_nodes, skipped) = run.nodes().map_err(told_at(day.paths.len() - 1))?;
-    let new_endings = [run.new_endings, run.known.endings];
+    let new_endings = [run.rates.new_endings(), run.known.new_endings()];
+    let over_day = run.rates.over_day(&run.known, day.drift);
+    let over_day_drifts = over_day.iter().any(|often| often.deviations > day.drift);
     let (stretches, found) = (run.stretches.done(), run.found.into_values().collect());
-    Ok(Watched { trained, places, stretches, found, new_endings, nodes, more_nodes, skipped })
+    Ok(Watched {
+        trained,
+        places,
+        stretches,
+        found,
+        over_day,
+        over_day_drifts,
+        new_endings,
+        nodes,
+        more_nodes,
+        skipped,
+    })
+}
+
+/// Paths over which it is looked how often something is done: the window, or where all paths count
+/// as many as a training sequence has. Of very few nothing can be said.
+fn rate_window(day: &Day) -> usize {
+    let window = if day.window == 0 { day.training_paths() } else { day.window as usize };
+    window.max(RATE_WINDOW)
 }
 
 /// A day as it is run.
@@ -77,11 +101,10 @@ struct Run<'a> {
     tracker: Tracker<'a>,
     counts: Counts<'a>,
     trained: Option<&'a Trained>,
-    /// What is usual at the length that was asked for last.
-    usual: (u64, Usual),
+    usual: UsualAt<'a>,
     stretches: Stretches,
     found: BTreeMap<known::NeverSeen, known::Found>,
-    new_endings: usize,
+    rates: Rates,
     /// Paths that are added.
     added: usize,
     /// The last path that is added, if it is not read, and how many there are since a reading.
@@ -97,8 +120,7 @@ impl Run<'_> {
         }
         self.counts.add(index);
         self.added += 1;
-        let steps = self.day.paths.steps(index);
-        self.new_endings += usize::from(self.known.new_ending(steps).is_some());
+        self.rates.add(self.known.odd(self.day.paths.steps(index)));
         if self.day.window == 0 && !self.added.is_multiple_of(1 + self.added / EVERY) {
             self.unread = Some(index);
             return Ok(Place::Unread);
@@ -130,42 +152,61 @@ impl Run<'_> {
         let greatest = self.counts.greatest();
         self.lent.reach(greatest);
         let stats = self.tracker.kl_div_stats(self.lent.tables(greatest), self.lent.priors())?;
-        let usual = self.usual_at(stats.sequence_length);
-        let reading = Reading::of(stats, self.counts.visits(), usual, self.day.drift);
+        let usual = self.usual.at(stats.sequence_length);
+        let drift = self.day.drift;
+        let often = self.rates.most(&self.known, drift);
+        let reading = Reading::of(stats, self.counts.visits(), usual, drift).or_often(often, drift);
         match reading.judged {
-            Judged::Calm => self.stretches.calm(index),
+            Judged::Calm | Judged::Not(Why::CarriedOn) => self.stretches.calm(index),
             Judged::Not(_) => self.stretches.unjudged(index),
-            Judged::Drift(deviations) => {
-                if self.stretches.drift(index, deviations) {
-                    let moved = self.most_moved()?;
-                    self.stretches.look_at(moved);
+            Judged::Drift(deviations) | Judged::Often(deviations) => {
+                self.stretches.drift(index, deviations);
+                if let Some(often) = often.filter(|often| often.deviations > drift) {
+                    self.stretches.often(often);
                 }
+                self.look_at(reading.above().filter(|above| *above > drift))?;
             }
         }
         Ok(Place::Read(reading))
     }
 
-    /// What is usual at a length. A full window asks for one length over and over.
-    fn usual_at(&mut self, length: u64) -> Usual {
-        if let (Some(trained), true) = (self.trained, self.usual.0 != length) {
-            self.usual = (length, trained.usual(length));
+    /// Notes the node to look at, where the figures are further above than before in the stretch.
+    fn look_at(&mut self, figures: Option<f64>) -> Result<(), Refusal> {
+        if let Some(figures) = figures.filter(|figures| self.stretches.further(*figures)) {
+            let moved = self.most_moved()?;
+            self.stretches.look_at(moved, figures);
         }
-        self.usual.1
+        Ok(())
     }
 
-    /// The node with the greatest divergence.
-    fn most_moved(&self) -> Result<Option<moved::Moved>, Refusal> {
+    /// The node to look at.
+    fn most_moved(&self) -> Result<Option<Moved>, Refusal> {
         let (nodes, _) = moved::divergences(&self.tracker, &self.lent, self.counts.greatest(), self.day)?;
-        nodes.first().map(|node| moved::moved(&self.tracker, self.day, *node)).transpose()
+        let most = match self.by_node() {
+            Some(by_node) => by_node.most_moved(&nodes, self.usual.length),
+            None => nodes.first().copied(),
+        };
+        most.map(|node| self.moved(node)).transpose()
+    }
+
+    fn by_node(&self) -> Option<&ByNode> {
+        self.trained.and_then(|trained| trained.by_node.as_ref())
+    }
+
+    /// A node with its shares, and what is usual for it at the length that was asked for last.
+    fn moved(&self, (node, divergence): (Address, f64)) -> Result<Moved, Refusal> {
+        let usual = self.by_node().map(|by_node| by_node.usual(node, self.usual.length).mean);
+        let shares = moved::shares(&self.tracker, self.day, self.by_node(), node)?;
+        Ok(Moved { node, divergence, usual, shares })
     }
 
     /// The nodes with the greatest divergences, how many more there are, and how many have no
     /// prior.
-    fn nodes(&mut self) -> Result<(Vec<moved::Moved>, usize, u32), Refusal> {
+    fn nodes(&mut self) -> Result<(Vec<Moved>, usize, u32), Refusal> {
         let greatest = self.counts.greatest();
         self.lent.reach(greatest);
         let (nodes, skipped) = moved::divergences(&self.tracker, &self.lent, greatest, self.day)?;
-        let shown = nodes.iter().take(NODES).map(|node| moved::moved(&self.tracker, self.day, *node));
+        let shown = nodes.iter().take(NODES).map(|node| self.moved(*node));
         let more = nodes.len().saturating_sub(NODES);
         Ok((shown.collect::<Result<_, Refusal>>()?, more, skipped))
     }
@@ -179,7 +220,7 @@ mod tests {
     use crate::mistakes::Problem;
     use crate::reader::read;
     use crate::report::report;
-    use crate::watched::{LeftOut, Place, Reading, Verdict, Watched};
+    use crate::watched::{LeftOut, Place, Reading, Tally, Verdict, Watched};
     use teakpool::{Address, Tracker, ENTRY_BYTES, PLACE_BYTES};
 
     const KIT: &str = "tables squares 7\nprior 1/7 1 0/7 2 0/9 3\n";
@@ -295,6 +336,28 @@ mod tests {
     }
 
     #[test]
+    fn what_is_not_judged_is_told_path_by_path() {
+        // The last path alone, and others between paths that are judged.
+        let head = "window 1\nprior 1/7 1 0/7 2 0/9 3\nsequence\npath 1/7\npath 2/2\n\
+                    sequence\npath 1/7 0/7\npath 1/7\nday\n";
+        let told = |paths: &str| -> Vec<String> {
+            let letter = |letter: char| if letter == '.' { "path 1/7\n" } else { "path 2/2\n" };
+            let day = format!("drift 1e9\n{}{}", head, paths.chars().map(letter).collect::<String>());
+            lines(&day, "not judged ").into_iter().filter(|line| line.starts_with("not judged")).collect()
+        };
+        let why = "no node that has a prior is in the window";
+        assert_eq!(told("...?"), [format!("not judged at path 4: {}", why)]);
+        assert_eq!(told("..??"), [format!("not judged from path 3 on: {}", why)]);
+        let said = format!("not judged at path 2 and from path 4 to path 5: {}", why);
+        assert_eq!(told(".?.??."), [said]);
+        let said = format!(
+            "not judged at path 1, at path 3, at path 5, at path 7 and at 3 more paths up to path 12: {}",
+            why
+        );
+        assert_eq!(told("?.?.?.?.?.??"), [said]);
+    }
+
+    #[test]
     fn a_reading_is_the_same_however_much_of_the_tables_is_lent() {
         let mut long = Lent::of(&day(include_str!("../../../days/example.txt")));
         long.reach(100_000);
@@ -329,7 +392,9 @@ mod tests {
         // Each covers what lies before it: the last has all paths.
         let last = whole.readings().next_back().expect("the last path is read").1;
         assert_eq!(last.stats.sequence_length as usize, paths);
-        assert_eq!(whole.tally().unread, paths - read.len());
+        let Tally { judged, unjudged, left_out, unread } = whole.tally();
+        assert_eq!((unread, judged + unjudged + left_out), (paths - read.len(), paths));
+        assert_eq!(whole.unjudged().iter().map(|part| part.paths).sum::<usize>(), unjudged);
         // With a window every path is read.
         assert_eq!(watched(&format!("window 9\n{}", day)).tally().unread, 0);
     }

@@ -194,23 +194,23 @@ fn what_is_not_judged_and_what_was_never_seen_stand_in_all_three() {
     let Run { status, report, page, figures: cells } = run("part", &part_judged());
     assert_eq!(status, Some(3));
     let not_judged =
-        "not judged from path 25 on: no usable spread (over 8 times the length of the last knot, 2)";
+        "not judged at path 25 and at path 27: no usable spread (over 8 times the length of the last knot, 2)";
     let never_seen =
         "path 2 (line 11, <all day>), step 1, and 8 more paths up to path 26 (line 35, <all day>): \
                       1/7 goes on to 0/8, which its prior does not have";
-    for line in [not_judged, never_seen, "judged: 16 of 27 paths; 9 paths left out; 2 without a judgement"] {
+    for line in [not_judged, never_seen, "judged: 2 of 27 paths; 9 paths left out; 16 without a judgement"] {
         assert!(report.lines().any(|told| told.trim() == line), "{}\n{}", line, report);
         assert!(text(&page).contains(line), "{}", line);
     }
     let kinds = |kind: &str| figures(&cells).iter().filter(|row| row["judgement"] == kind).count();
-    assert_eq!((kinds("left out"), kinds("not judged"), kinds("calm") + kinds("drift")), (9, 2, 16));
+    assert_eq!((kinds("left out"), kinds("not judged"), kinds("calm") + kinds("drift")), (9, 16, 2));
     // A mark for each path in both panels of both drawings, and the hatching at the end.
     assert_eq!(page.matches("<path class=\"never-seen\"").count(), 9 * 4);
     let tag = "<rect class=\"unjudged\"";
     assert_eq!(page.matches(tag).count(), 4);
     let step = (1_000.0 - 64.0 - 16.0) / 27.0;
-    assert!(((number(&page, tag, "x") - 64.0) / step - 24.0).abs() < 0.01);
-    assert!((number(&page, tag, "width") / step - 3.0).abs() < 0.01);
+    assert!(((number(&page, tag, "x") - 64.0) / step - 3.0).abs() < 0.01);
+    assert!((number(&page, tag, "width") / step - 24.0).abs() < 0.01);
 }
 
 #[test]
@@ -249,6 +249,26 @@ fn no_file_is_written_over_another() {
     assert_eq!(status(&["--html", &day, &day]), Some(2));
     assert_eq!(status(&["--csv", &format!("{}/./over.txt", folder), &day]), Some(2));
     assert_eq!(status(&["--csv", "same", "--html", "same", &day]), Some(2));
+    // By other names of the same file, also of one that is not there yet.
+    let other = |name: &str| format!("{}/over-{}", folder, name);
+    for name in ["link", "hard", "new", "new-link"] {
+        let _ = std::fs::remove_file(other(name));
+    }
+    std::os::unix::fs::symlink("over.txt", other("link")).expect("a link can be made");
+    std::fs::hard_link(&day, other("hard")).expect("a link can be made");
+    std::os::unix::fs::symlink("over-new", other("new-link")).expect("a link can be made");
+    assert_eq!(status(&["--html", &other("link"), &day]), Some(2));
+    assert_eq!(status(&["--csv", &other("hard"), &day]), Some(2));
+    assert_eq!(status(&["--csv", &other("new"), "--html", &other("new-link"), &day]), Some(2));
+    assert!(!std::fs::exists(other("new")).expect("the folder can be read"));
+    // The day as standard input, and the report's own file.
+    let open = || std::fs::File::options().read(true).append(true).open(&day).expect("it is there");
+    let mut piped = Command::new(env!("CARGO_BIN_EXE_watch"));
+    assert_eq!(piped.args(["--csv", &day, "-"]).stdin(open()).status().expect("it runs").code(), Some(2));
+    let mut report = Command::new(env!("CARGO_BIN_EXE_watch"));
+    report.args(["--csv", &other("hard"), "none"]).stdout(open());
+    assert_eq!(report.status().expect("it runs").code(), Some(2));
     assert_eq!(std::fs::read_to_string(&day).expect("it is there"), "day\npath 1/7\n");
+    assert_eq!(status(&["--csv", "/dev/null", "--html", "/dev/null", &day]), Some(4));
     assert_eq!(status(&["--csv", &format!("{}/none/figures.csv", folder), &day]), Some(1));
 }

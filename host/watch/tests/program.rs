@@ -1,6 +1,8 @@
 //! The program as it is run: what it prints, and its exit status.
 
+use std::ffi::OsStr;
 use std::io::Write;
+use std::os::unix::ffi::OsStrExt;
 use std::process::{Command, Stdio};
 
 /// Exit status, output and errors.
@@ -74,6 +76,10 @@ fn the_exit_status_tells_drift_and_what_is_not_judged() {
     assert_eq!(status("calm", &trained("path 1/7 0/7\n")), Some(0));
     assert_eq!(status("drift", &format!("drift 0\n{}", trained("path 1/7 0/7\npath 1/7 0/7\n"))), Some(3));
     assert_eq!(status("never_seen", &trained("path 1/7 0/8\n")), Some(3));
+    // Past the last knot, at length 2, nothing passes for calm.
+    let short = "path 1/7 0/7\npath 1/7 0/9\n";
+    assert_eq!(status("trained", &trained(short)), Some(0));
+    assert_eq!(status("carried_on", &trained(&short.repeat(2))), Some(4));
     assert_eq!(status("far", &trained(&"path 1/7 0/7\npath 1/7 0/9\n".repeat(9))), Some(4));
     assert_eq!(status("untrained", "day\npath 1/7\n"), Some(4));
     assert_eq!(status("mistake", "day\n"), Some(1));
@@ -117,4 +123,43 @@ fn priors_are_made_of_good_days_and_can_be_read() {
     let (status, _, errors) = watch(&["priors", &wide]);
     assert_eq!(status, Some(1));
     assert_eq!(errors, "priors: 1/0 goes on to 65 children; a prior has at most 64\n");
+}
+
+#[test]
+fn nothing_in_a_files_name_is_obeyed() {
+    let name = "a\u{1b}[31m<b>\nday";
+    let day = file(name, b"day\npath 1/7\n");
+    let page = file("obeyed.html", b"");
+    let (status, report, _) = watch(&["--html", &page, &day]);
+    assert_eq!(status, Some(4));
+    let page = std::fs::read_to_string(page).expect("it is written");
+    assert!(report.lines().next().expect("a line").contains("a\\u{1b}[31m<b>\\u{a}day: "), "{}", report);
+    assert!(page.contains("a\\u{1b}[31m&lt;b&gt;\\u{a}day") && !page.contains('\u{1b}'));
+    let (status, _, errors) = watch(&["\u{1b}c"]);
+    assert_eq!(status, Some(1));
+    assert!(errors.starts_with("\\u{1b}c: cannot be read: "), "{}", errors);
+}
+
+#[test]
+fn a_files_name_need_not_be_text() {
+    let bytes = [env!("CARGO_TARGET_TMPDIR").as_bytes(), b"/gr\xfcn.txt"].concat();
+    let day = OsStr::from_bytes(&bytes);
+    std::fs::write(day, trained("path 1/7 0/7\n")).expect("the file can be written");
+    let output = Command::new(env!("CARGO_BIN_EXE_watch")).arg(day).output().expect("the program runs");
+    assert_eq!(output.status.code(), Some(0));
+    assert!(String::from_utf8_lossy(&output.stdout).contains("gr\u{fffd}n.txt: no drift\n"));
+}
+
+#[test]
+fn a_reader_of_errors_that_goes_away_is_no_failure() {
+    let (reads, writes) = std::io::pipe().expect("there are pipes");
+    drop(reads);
+    let status = Command::new(env!("CARGO_BIN_EXE_watch")).arg("none/none").stderr(writes).status();
+    assert_eq!(status.expect("the program runs").code(), Some(1));
+}
+
+#[test]
+fn one_path_is_the_only_one() {
+    let (_, report, _) = watch(&[&file("one", trained("path 1/7 0/7\n").as_bytes())]);
+    assert!(report.contains("\n  judged: the only path\n"), "{}", report);
 }
