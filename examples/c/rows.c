@@ -200,6 +200,7 @@ static void put_knot(double *at, double sum, double squares)
 /* Minus zero comes out of a baseline that holds it, or that rounds to it, and never below the first knot. */
 static void minus_zeros(void)
 {
+    expect(!same(0.0, -0.0) && same(-0.0, -0.0), "the zeros are two figures");
     static const struct {
         double sum, squares;
         uint32_t s;

@@ -102,6 +102,7 @@ fn replay(directory: &Path) -> Result<(), String> {
         let failed = |text: String| format!("{}: {}", recorded.name, text);
         let bytes =
             std::fs::read(directory.join(recorded.name)).map_err(|error| failed(error.to_string()))?;
+        limits::within(recorded.name, bytes.len(), recorded.most)?;
         let cases = open_file(recorded.magic, &bytes).map_err(failed)?;
         for (number, words) in cases.iter().enumerate() {
             replay_case(words, recorded.replay)
