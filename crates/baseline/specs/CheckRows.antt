@@ -153,9 +153,9 @@ meanAnd mean variance = record { mean = mean; variance = variance }
 
 -- ---- baselines that are lent
 
--- the least figure below 0, -5e-324
-abbrev pub least : Float
-least = ofBits binary64 0x8000_0000_0000_0001
+-- the figure next below 0, -5e-324
+abbrev pub nextBelow : Float
+nextBelow = ofBits binary64 0x8000_0000_0000_0001
 
 -- a knot's values: of all five figures this sum and these squares
 abbrev pub knotOf : Float → Float → List Float
@@ -211,12 +211,12 @@ Rows =
     × (oneKnot 2 ≡ refused 18 none)
     -- at a knot: a sum of minus zero, or of -5e-324 over two sequences, has the mean minus zero
     × (atKnot minusZero64 zero64 1 ≡ alike minusZero64 zero64)
-    × (atKnot least zero64 2 ≡ alike minusZero64 zero64)
+    × (atKnot nextBelow zero64 2 ≡ alike minusZero64 zero64)
     -- and squares of minus zero have the variance minus zero, whichever zero the mean is
     × (atKnot zero64 minusZero64 1 ≡ alike zero64 minusZero64)
     × (atKnot minusZero64 minusZero64 1 ≡ alike minusZero64 minusZero64)
     -- between minus zero and -5e-324, a quarter of the way: minus zero, means and variances alike
-    × (alongKnots (knotOf minusZero64 minusZero64) (knotOf least least) 2 ≡ alike minusZero64 minusZero64)
+    × (alongKnots (knotOf minusZero64 minusZero64) (knotOf nextBelow nextBelow) 2 ≡ alike minusZero64 minusZero64)
     -- between two knots of minus zero, past them, and below them: plus zero
     × (alongKnots (knotOf minusZero64 minusZero64) (knotOf minusZero64 minusZero64) 2 ≡ alike zero64 zero64)
     × (alongKnots (knotOf minusZero64 minusZero64) (knotOf minusZero64 minusZero64) 9 ≡ alike zero64 zero64)

@@ -5,7 +5,7 @@ use mathlib.Core.Bool.{true, false}
 use Prim.Native.Nat.{_-_, _^_}
 use lib.IntN.{pos}
 use lib.Ieee.{fin, inf, binary64, round, mul, ofBits}
-use Rattle.divergence.specs.Numbers.{fmul, zero64, tiny64, min64, max64}
+use Rattle.divergence.specs.Numbers.{fmul, zero64, minusZero64, tiny64, min64, max64}
 
 pub tiny-is : tiny64 ≡ round binary64 false 1 (10 ^ 10)
 unfolding ofBits round
@@ -22,6 +22,10 @@ min-is = refl
 pub zero-is : zero64 ≡ fin false 0 (pos 0)
 unfolding ofBits
 zero-is = refl
+
+pub minus-is : minusZero64 ≡ fin true 0 (pos 0)
+unfolding ofBits
+minus-is = refl
 
 pub min-squared : fmul min64 min64 ≡ inf false
 unfolding ofBits mul

@@ -14,6 +14,7 @@ use lib.Ieee.Fits.{down-pos, and-l, and-r}
 use lib.Ieee.Order.{round-mono}
 use lib.Ieee.Digits.{back}
 use lib.Ieee.Back.{whole-unique}
+use lib.Ieee.Scale.{finite}
 
 -- ---- signs
 
@@ -147,11 +148,6 @@ unfolding fits
 zero-form f s m e c C h p z =
     let none : m * up e ≡ 0 = eq-of-mul-eq-mul-right c C (m * up e) 0 (z ∙ sym (zero-mul c)) in
     whole-unique f (fin s m e) (fin true 0 (pos 0)) true 0 h tt (p, mul-one (m * up e) ∙ none ∙ sym (zero-mul (down e))) (refl, refl)
-
-abbrev finite : Float → Bool
-finite nan = false
-finite (inf s) = false
-finite (fin s m e) = true
 
 pub add-minus : (f : Format) (x y : Float) → T (fits f x) → T (fits f y) → add f x y ≡ fin true 0 (pos 0) → (x ≡ fin true 0 (pos 0)) × (y ≡ fin true 0 (pos 0))
 unfolding add

@@ -1,14 +1,14 @@
--- `≡` of figures is equality of their bits, any NaN equal to any NaN. And no reading tells minus zero: the sums of divergences, of their statistics and of goko's
--- digamma terms start at plus zero, and no term that is added or taken away makes minus zero of that. Assumes nothing.
-use mathlib.Core.Path.{_≡_, refl, sym, ap, _∙_}
+-- `≡` of figures is equality of their bits, any NaN equal to any NaN. And no reading tells minus zero: every sum of a divergence and of the statistics starts at plus
+-- zero, and no term that is added or taken away makes minus zero of that; a probability is a quotient without a minus. Assumes nothing.
+use mathlib.Core.Path.{_≡_, refl, sym, ap, _∙_, subst}
 use mathlib.Core.Bool.{Bool, true, false, not, cond, true≢false}
 use mathlib.Core.Logic.{inl, inr}
 use mathlib.Core.List.{List, [], _∷_, _++_}
 use mathlib.Core.Option.{Option, none, some}
 use Prim.Native.Nat.{ℕ, zero, suc, _+_, _^_, _<_}
 use lib.Dec.{T, ltb, leb}
-use lib.ListN.{length, drop, getD}
-use lib.IntN.{pos}
+use lib.ListN.{length, take, drop, length-map}
+use lib.Seq.{take-append-seam}
 use lib.Ieee.{Float, nan, inf, fin, binary64, ofBits, toBits, isNan, fits, sub, neg, ofInt, lt}
 use lib.Ieee.Fits.{add-fits, mul-fits, neg-fits}
 use lib.Ieee.Bits.{nanBits-is, toBits-ofBits}
@@ -20,15 +20,15 @@ use Rattle.divergence.specs.declared.sums.Sums.{Sums}
 use Rattle.divergence.specs.declared.divergences.NodeDivergence.{NodeDivergence}
 use Rattle.divergence.specs.declared.divergences.NodeDivergence.the-variants.{Value, NoPrior, MissingChild, PastTable}
 use Rattle.divergence.specs.declared.statistics.KLDivergenceStats.{KLDivergenceStats}
-use Rattle.divergence.specs.Numbers.{fadd, fsub, fmul, flt, zero64, minusZero64, tiny64, min64, max64}
+use Rattle.divergence.specs.Numbers.{fadd, fsub, fmul, flt, zero64, tiny64, min64, max64}
 use Rattle.divergence.specs.Nodes.{Node, evidenceOf}
-use Rattle.divergence.specs.Probability.{figuresOf}
+use Rattle.divergence.specs.Probability.{figure, figuresOf}
 use Rattle.divergence.specs.Divergence.{noSums, term, endingTerm, priorCount, childTerms, noLess, closed, divergence, lacksChild, nodeDivergence}
 use Rattle.divergence.specs.Statistics.{Place, Walk, stopped, walked, visited, walk, noStats, counted, noted, statsOver}
-use Rattle.divergence.specs.Readings.{Reading, refused, nothing, answered, written, unless, filledFigures, fitting, divergenceReading, ofListed, klReading, probReading, evidenceReading, Divergences, withPrior, walkReading, allListed, allReading, valuesOf, statsReadingOf, statsReading}
-use Rattle.divergence.specs.Answers.{vectorResult}
-use Rattle.divergence.specs.Asked.{Seen, Output, roomIn, klAsked, statsAsked}
-use Rattle.divergence.specs.Zeros.{SameBits, EqualByBits, NotMinusZero, NoDivergenceIsMinusZero, NoProbabilityIsMinusZero, ToldWithout, figureOf, endingOf, statisticsOf, NoMinusZero}
+use Rattle.divergence.specs.Readings.{Reading, refused, nothing, answered, unless, filledFigures, fitting, divergenceReading, ofListed, klReading, probReading, evidenceReading, Divergences, withPrior, walkReading, allListed, allReading, valuesOf, statsReadingOf, statsReading}
+use Rattle.divergence.specs.Asked.{Seen, Output, roomIn, vectorTelling, allTelling, klAsked, statsAsked}
+use Rattle.divergence.specs.Zeros.{SameBits, EqualByBits, NotMinusZero, NoDivergenceIsMinusZero, NoProbabilityIsMinusZero, ToldWithout, figureOf, statisticsOf, divergencesIn, probabilitiesIn, TellingWithout, NoMinusZero}
+use Rattle.divergence.proofs.Constants.{minus-is}
 use Rattle.divergence.proofs.SignLaws.{signOf, round-signed, add-minus, div-signed}
 
 -- ---- equality of figures
@@ -39,15 +39,11 @@ one-nan nan h = refl
 one-nan (inf s) h = absurd (true≢false (sym h))
 one-nan (fin s m e) h = absurd (true≢false (sym h))
 
-not-true : (b : Bool) → b ≡ false → T (not b)
-not-true true h = absurd (true≢false h)
-not-true false h = tt
-
 pub equal-by-bits : EqualByBits
 equal-by-bits a b A B = (same, equal)
   where
     of-pattern : (n : ℕ) → n < 2 ^ 64 → isNan (ofBits binary64 n) ≡ false → toBits binary64 (ofBits binary64 n) ≡ n
-    of-pattern n N h = toBits-ofBits binary64 n N (not-true (isNan (ofBits binary64 n)) h)
+    of-pattern n N h = toBits-ofBits binary64 n N (subst (λ (b : Bool). T (not b)) (sym h) tt)
 
     go : (x : Bool) → isNan (ofBits binary64 a) ≡ x → ofBits binary64 a ≡ ofBits binary64 b → SameBits a b
     go true h e = inr (nanBits-is binary64 a ∙ h, nanBits-is binary64 b ∙ ap isNan (sym e) ∙ h)
@@ -61,10 +57,6 @@ equal-by-bits a b A B = (same, equal)
     equal (inr (h, k)) = one-nan (ofBits binary64 a) (sym (nanBits-is binary64 a) ∙ h) ∙ sym (one-nan (ofBits binary64 b) (sym (nanBits-is binary64 b) ∙ k))
 
 -- ---- figures that are not minus zero
-
-minus-is : minusZero64 ≡ fin true 0 (pos 0)
-unfolding ofBits
-minus-is = refl
 
 -- a value of the format that is not minus zero
 abbrev Clear : Float → Type 0
@@ -215,17 +207,11 @@ stats-clear s (p ∷ ps) h k = stats-clear (noted s (p .value)) ps (noted-clear 
 
 -- ---- what readings tell
 
--- an output that is filled with such figures has none but those that it keeps
-none-left : (n : ℕ) → _≡_ {A = List Float} (drop n []) []
-none-left zero = refl
-none-left (suc n) = refl
-
-filled-without : (values lent : List Float) → All NotMinusZero values → (k : ℕ) → getD (filledFigures values lent) k nan ≡ minusZero64 → getD lent k nan ≡ minusZero64
+-- the places that are filled hold what they are filled with
+filled-without : (values lent : List Float) (n : ℕ) → length values ≡ n → All NotMinusZero values → All NotMinusZero (take n (filledFigures values lent))
 unfolding filledFigures
-filled-without [] lent h k e = e
-filled-without (v ∷ vs) lent h zero e = absurd (h .0 e)
-filled-without (v ∷ vs) [] h (suc k) e = filled-without vs [] (h .1) k (ap (λ (l : List Float). getD (vs ++ l) k nan) (none-left (length vs)) ∙ e)
-filled-without (v ∷ vs) (x ∷ lent) h (suc k) e = filled-without vs lent (h .1) k e
+filled-without values lent n e h =
+    subst (All NotMinusZero) (sym (ap (λ (k : ℕ). take k (values ++ drop (length values) lent)) (sym e) ∙ take-append-seam values (drop (length values) lent))) h
 
 module _ {X : Type 0} (figures : X → List Float) where
   told-unless : (n : ℕ) (r : Reading X) → ToldWithout figures r → ToldWithout figures (unless n r)
@@ -242,27 +228,19 @@ module _ {X : Type 0} (figures : X → List Float) where
       go true = tt
       go false = h
 
-  written-without : (r : Reading X) (lent : List Float) → ToldWithout figures r → (k : ℕ)
-      → getD (written (λ x. filledFigures (figures x) lent) r lent) k nan ≡ minusZero64 → getD lent k nan ≡ minusZero64
-  written-without (refused n node) lent h k e = e
-  written-without nothing lent h k e = e
-  written-without (answered x) lent h k e = filled-without (figures x) lent h k e
-
 -- ---- the readings
-
-ending-told : (r : Reading Counts) → ToldWithout endingOf (vectorResult r)
-ending-told (refused n node) = tt
-ending-told nothing = tt
-ending-told (answered c) = (no-probability (c .ending) (total c), tt)
 
 rows-without : (whole : ℕ) (rs : List Row) → All NotMinusZero (figuresOf whole rs)
 rows-without whole [] = tt
 rows-without whole (r ∷ rs) = (no-probability (r .count) whole, rows-without whole rs)
 
-vector-told : (r : Reading Counts) → ToldWithout (λ (c : Counts). figuresOf (total c) (c .children)) r
-vector-told (refused n node) = tt
-vector-told nothing = tt
-vector-told (answered c) = rows-without (total c) (c .children)
+vector-told : (o : Output) (r : Reading Counts) → TellingWithout probabilitiesIn (vectorTelling o r)
+vector-told o (refused n node) = tt
+vector-told o nothing = tt
+vector-told o (answered c) = (
+  no-probability (c .ending) (total c),
+  filled-without (figuresOf (total c) (c .children)) (o .figures) (length (c .children)) (length-map (c .children) (λ (r : Row). figure (r .count) (total c))) (rows-without (total c) (c .children)),
+)
 
 values-without : (ps : List Place) → All (λ (p : Place). Clear (p .value)) ps → All NotMinusZero (valuesOf ps)
 values-without [] h = tt
@@ -313,14 +291,17 @@ module _ (s : Seen) (t : LentTables) (p : LentPriors) (rank : ℕ) (o : Output) 
       checked statisticsOf (tablesRefusal (t .G) (t .D)) (priorsRefusal (p .nodes) (p .children)) (s .form) (statsReadingOf (s .sequenceLength) walked-over)
       (walk-stats (s .sequenceLength) walked-over walked-clear)
 
+-- what is told of all nodes fills the output
+all-filled : (o : Output) (r : Reading Divergences) → ToldWithout (λ (a : Divergences). valuesOf (a .places)) r → TellingWithout divergencesIn (allTelling o r)
+all-filled o (refused n node) h = tt
+all-filled o nothing h = tt
+all-filled o (answered a) h = filled-without (valuesOf (a .places)) (o .figures) (length (a .places)) (length-map (a .places) (λ (p : Place). p .value)) h
+
 pub no-minus-zero : NoMinusZero
-no-minus-zero s t p rank o =
-    let prob = probReading (s .form) (p .nodes) (p .children) (s .listed) rank (roomIn o) in
-    let evidence = evidenceReading (s .form) (s .listed) rank (roomIn o) in
-    let figures : Counts → List Float = λ (c : Counts). figuresOf (total c) (c .children) in (
-      one-told s t p rank o,
-      written-without (λ (a : Divergences). valuesOf (a .places)) (allReading (s .form) (t .G) (t .D) (p .nodes) (p .children) (s .listed) (roomIn o)) (o .figures) (all-told s t p rank o),
-      stats-told s t p rank o,
-      (ending-told prob, written-without figures prob (o .figures) (vector-told prob)),
-      (ending-told evidence, written-without figures evidence (o .figures) (vector-told evidence)),
-    )
+no-minus-zero s t p rank o = (
+  one-told s t p rank o,
+  all-filled o (allReading (s .form) (t .G) (t .D) (p .nodes) (p .children) (s .listed) (roomIn o)) (all-told s t p rank o),
+  stats-told s t p rank o,
+  vector-told o (probReading (s .form) (p .nodes) (p .children) (s .listed) rank (roomIn o)),
+  vector-told o (evidenceReading (s .form) (s .listed) rank (roomIn o)),
+)

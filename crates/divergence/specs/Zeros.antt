@@ -5,8 +5,8 @@ use mathlib.Core.Path.{_≡_}
 use mathlib.Core.Bool.{true}
 use mathlib.Core.List.{List, [], _∷_}
 use mathlib.Core.Logic.{_⊎_}
-use lib.ListN.{getD}
-use lib.Ieee.{Float, nan, binary64, ofBits, nanBits}
+use lib.ListN.{take}
+use lib.Ieee.{Float, binary64, ofBits, nanBits}
 use Rattle.priors.specs.Tables.{LentTables}
 use Rattle.priors.specs.Priors.{LentPriors, Counts}
 use Rattle.book.specs.Figures.{All}
@@ -14,8 +14,8 @@ use Rattle.divergence.specs.Numbers.{minusZero64}
 use Rattle.divergence.specs.Probability.{figure}
 use Rattle.divergence.specs.Divergence.{divergence}
 use Rattle.divergence.specs.Readings.{Reading, refused, nothing, answered, Statistics}
-use Rattle.divergence.specs.Answers.{VectorResult}
-use Rattle.divergence.specs.Asked.{Seen, Output, probAsked, evidenceAsked, klAsked, allAsked, statsAsked}
+use Rattle.divergence.specs.Answers.{VectorResult, AllResult}
+use Rattle.divergence.specs.Asked.{Seen, Output, Telling, probAsked, evidenceAsked, klAsked, allAsked, statsAsked}
 
 -- ---- equality of figures
 
@@ -43,7 +43,7 @@ NoProbabilityIsMinusZero = (count whole : ℕ) → NotMinusZero (figure count wh
 
 -- ---- nor any that a reading tells
 
--- in an answer
+-- of an answer these figures are told
 abbrev pub ToldWithout : {X : Type 0} → (X → List Float) → Reading X → Type 0
 ToldWithout figures (refused n node) = Unit {0}
 ToldWithout figures nothing = Unit {0}
@@ -52,21 +52,25 @@ ToldWithout figures (answered x) = All NotMinusZero (figures x)
 abbrev pub figureOf : Float → List Float
 figureOf x = x ∷ []
 
-abbrev pub endingOf : VectorResult → List Float
-endingOf v = v .ending ∷ []
-
 abbrev pub statisticsOf : Statistics → List Float
 statisticsOf a = a .stats .max ∷ a .stats .min ∷ a .stats .«moment1_nz» ∷ a .stats .«moment2_nz» ∷ []
 
--- in an output: minus zero stands at most where it stood before
-abbrev pub LeftWithout : Output → Output → Type 0
-LeftWithout before after = (k : ℕ) → getD (after .figures) k nan ≡ minusZero64 → getD (before .figures) k nan ≡ minusZero64
+-- with an output, which is as it is afterwards: the figures of the places that are filled
+abbrev pub divergencesIn : Output → AllResult → List Float
+divergencesIn o a = take (a .places) (o .figures)
+
+abbrev pub probabilitiesIn : Output → VectorResult → List Float
+probabilitiesIn o v = v .ending ∷ take (v .places) (o .figures)
+
+-- a reading with an output tells none of them
+abbrev pub TellingWithout : {X : Type 0} → (Output → X → List Float) → Telling X → Type 0
+TellingWithout figures t = ToldWithout (figures (t .output)) (t .answer)
 
 abbrev pub NoMinusZero : Type 0
 NoMinusZero =
     (s : Seen) (t : LentTables) (p : LentPriors) (rank : ℕ) (o : Output)
     → ToldWithout figureOf (klAsked s t p rank)
-    × LeftWithout o (allAsked s t p o .output)
+    × TellingWithout divergencesIn (allAsked s t p o)
     × ToldWithout statisticsOf (statsAsked s t p)
-    × (ToldWithout endingOf (probAsked s p rank o .answer) × LeftWithout o (probAsked s p rank o .output))
-    × (ToldWithout endingOf (evidenceAsked s rank o .answer) × LeftWithout o (evidenceAsked s rank o .output))
+    × TellingWithout probabilitiesIn (probAsked s p rank o)
+    × TellingWithout probabilitiesIn (evidenceAsked s rank o)
