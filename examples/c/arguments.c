@@ -84,6 +84,18 @@ uint32_t teakpool_add_path(uint32_t state[3], uint8_t *book_at, size_t book_leng
     return answer >= TEAKPOOL_MISSING_CHILD ? TEAKPOOL_DONE : answer;
 }
 
+/* What both readings of probabilities take last. */
+static void vector_seen(int32_t scale, uint32_t point, uint8_t *addresses_at, size_t addresses_length, double *figures_at,
+                        size_t figures_length, uint32_t *places, double *ending)
+{
+    number((uint64_t)(int64_t)scale);
+    number(point);
+    slice(addresses_at, addresses_length);
+    slice(figures_at, figures_length);
+    number(place(places));
+    number(place(ending));
+}
+
 uint32_t teakpool_prob_vector(const uint32_t state[3], const uint8_t *book_at, size_t book_length, const uint8_t *queue_at,
                               size_t queue_length, const uint8_t *nodes_at, size_t nodes_length, const uint8_t *children_at,
                               size_t children_length, int32_t scale, uint32_t point, uint8_t *addresses_at,
@@ -92,12 +104,7 @@ uint32_t teakpool_prob_vector(const uint32_t state[3], const uint8_t *book_at, s
     tracker_seen(state, book_at, book_length, queue_at, queue_length);
     slice(nodes_at, nodes_length);
     slice(children_at, children_length);
-    number((uint64_t)(int64_t)scale);
-    number(point);
-    slice(addresses_at, addresses_length);
-    slice(figures_at, figures_length);
-    number(place(places));
-    number(place(ending));
+    vector_seen(scale, point, addresses_at, addresses_length, figures_at, figures_length, places, ending);
     return answer;
 }
 
@@ -107,12 +114,7 @@ uint32_t teakpool_evidence_prob_vector(const uint32_t state[3], const uint8_t *b
                                        uint32_t *places, double *ending)
 {
     tracker_seen(state, book_at, book_length, queue_at, queue_length);
-    number((uint64_t)(int64_t)scale);
-    number(point);
-    slice(addresses_at, addresses_length);
-    slice(figures_at, figures_length);
-    number(place(places));
-    number(place(ending));
+    vector_seen(scale, point, addresses_at, addresses_length, figures_at, figures_length, places, ending);
     return answer;
 }
 
