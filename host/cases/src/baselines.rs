@@ -125,9 +125,9 @@ fn knot_of(sum: f64, squares: f64) -> Vec<f64> {
     values
 }
 
-/// Baselines where minus zero comes out: as a mean, from a sum of minus zero or of the least
-/// figure below 0 over two sequences; as a variance, from squares of minus zero; between knots, a
-/// quarter of the way from minus zero to the least figure below it. And two knots of minus zero,
+/// Baselines where minus zero comes out: as a mean, from a sum of minus zero or of the figure next
+/// below 0 over two sequences; as a variance, from squares of minus zero; between knots, a quarter
+/// of the way from minus zero to the figure next below it. And two knots of minus zero,
 /// between which, below which and past which it must not.
 pub fn minus_zeros() -> Vec<StatsAsked> {
     let at_knot = |sum: f64, squares: f64, sequences: u32| StatsAsked {

@@ -146,14 +146,14 @@ fn knot(sum: f64, squares: f64) -> Vec<f64> {
     [vec![sum, squares], vec![0.0; 8]].concat()
 }
 
-/// The least figure below 0, -5e-324.
-const LEAST: f64 = -f64::from_bits(1);
+/// The figure next below 0, -5e-324.
+const NEXT_BELOW: f64 = -f64::from_bits(1);
 
 #[test]
 fn minus_zero_at_a_knot() {
     let at = |sum: f64, squares: f64, sequences: u32| maximum(sequences, &[1], &knot(sum, squares), 1);
     assert_eq!(at(-0.0, 0.0, 1), bits([-0.0, 0.0]));
-    assert_eq!(at(LEAST, 0.0, 2), bits([-0.0, 0.0]));
+    assert_eq!(at(NEXT_BELOW, 0.0, 2), bits([-0.0, 0.0]));
     assert_eq!(at(0.0, -0.0, 1), bits([0.0, -0.0]));
     assert_eq!(at(-0.0, -0.0, 1), bits([-0.0, -0.0]));
 }
@@ -163,7 +163,7 @@ fn minus_zero_between_and_past_knots() {
     let along = |left: f64, right: f64, length: u32| {
         maximum(1, &[1, 5], &[knot(left, 0.0), knot(right, 0.0)].concat(), length)
     };
-    assert_eq!(along(-0.0, LEAST, 2), bits([-0.0, 0.0]));
+    assert_eq!(along(-0.0, NEXT_BELOW, 2), bits([-0.0, 0.0]));
     for length in [0, 2, 9] {
         assert_eq!(along(-0.0, -0.0, length), bits([0.0, 0.0]), "length {}", length);
     }

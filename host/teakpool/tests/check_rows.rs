@@ -133,9 +133,9 @@ fn mean_bits(sums: [f64; 2], length: u32) -> u64 {
 
 #[test]
 fn the_sign_of_zero_in_a_baseline() {
-    let least = -f64::from_bits(1);
-    assert_eq!(mean_bits([-0.0, least], 1), (-0.0_f64).to_bits());
-    assert_eq!(mean_bits([-0.0, least], 2), (-0.0_f64).to_bits());
+    let next_below = -f64::from_bits(1);
+    assert_eq!(mean_bits([-0.0, next_below], 1), (-0.0_f64).to_bits());
+    assert_eq!(mean_bits([-0.0, next_below], 2), (-0.0_f64).to_bits());
     for length in [0, 2, 9] {
         assert_eq!(mean_bits([-0.0, -0.0], length), 0, "length {}", length);
     }

@@ -1,6 +1,6 @@
 //! What is usual for each node: mean and variance of its divergence over the training sequences,
 //! at some of the knots. A node whose divergence is always great has not moved; the node to look at
-//! is the one that lies furthest above what is usual for it.
+//! is, of those that have risen well above their mean, the one that has by most times its usual size.
 
 use crate::day::Day;
 use crate::lent::Lent;
