@@ -152,7 +152,9 @@ impl Answer {
 
     /// The figures of the answer: those in its result, then those of the places that it filled.
     pub fn told(&self) -> Vec<f64> {
-        let filled = |places: u32, output: &Places| output.figures[..places as usize].to_vec();
+        let filled = |places: u32, output: &Places| -> Vec<f64> {
+            output.figures.iter().take(places as usize).copied().collect()
+        };
         match self {
             Answer::Vector(Ok(Some(vector)), output) => {
                 [vec![vector.ending], filled(vector.places, output)].concat()
