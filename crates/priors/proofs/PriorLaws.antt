@@ -2,19 +2,19 @@
 -- child's count is 0. Assumes nothing.
 use mathlib.Core.Path.{_≡_, refl, sym, ap, _∙_}
 use mathlib.Core.Bool.{Bool, true, false, cond}
-use Prim.Native.Nat.{ℕ, zero, suc, _+_, _*_, _^_, _≤_, _<_}
+use Prim.Native.Nat.{ℕ, zero, suc, _+_, _*_, _%_, _^_, _≤_, _<_}
 use native.Mathlib.Omega.{arith}
 use mathlib.Core.List.{List, [], _∷_, map}
 use mathlib.Core.Option.{Option, none, some, Option·map}
 use lib.Dec.{eqb, leb, ltb}
 use lib.ListN.{length, getD}
 use borrow.Author.Tests.{leb-true, ltb-true}
-use Rattle.priors.specs.Limits.{maxChain, maxNodes, maxChildren}
+use Rattle.priors.specs.Limits.{maxChain, maxNodes, maxChildren, recordSize}
 use Rattle.priors.specs.declared.records.Record.{Record}
 use Rattle.priors.specs.Rows.{row, countOf}
-use Rattle.priors.specs.Priors.{recordAt, recordCount, records, ascends, findRecord, chain, chainOf, Counts, countSum, total, priorOf, priorOfNode, wholeRecords, firstLinkFits, nextLinkFits, chainFits, chainAscends, countFits, totalFits, everyNode, everyChild, priorsRefusal}
+use Rattle.priors.specs.Priors.{recordAt, recordCount, records, ascends, findRecord, chain, chainOf, Counts, countSum, total, priorOf, priorOfNode, wholeRecords, firstLinkFits, nextLinkFits, chainFits, chainAscends, countFits, totalFits, pointsDiffer, answers, everyNode, everyChild, priorsRefusal}
 use Rattle.priors.proofs.Ranks.{Bytes, word-lt}
-use Rattle.priors.proofs.BelowLaws.{all-at}
+use Rattle.priors.proofs.BelowLaws.{second-true, all-at}
 use Rattle.priors.proofs.ChainLaws.{next-small}
 use Rattle.priors.proofs.RecordLaws.{noRecord, length-records, getD-records}
 
@@ -23,7 +23,7 @@ unbroken : (b : Bool) (n rest : ℕ) → cond b rest (suc n) ≡ 0 → (b ≡ tr
 unbroken true n rest h = (refl, h)
 unbroken false n rest h = absurd (omega arith)
 
-pub record Accepted (nodes children : List ℕ) : Type 0 where
+pub record Accepted (nodes children : List ℕ) (layer : ℕ) : Type 0 where
   pub ordered : ascends (records nodes) ≡ true
   pub firsts : everyNode nodes (firstLinkFits nodes children) ≡ true
   pub rising : everyChild children (nextLinkFits children) ≡ true
@@ -31,9 +31,10 @@ pub record Accepted (nodes children : List ℕ) : Type 0 where
   pub ascending : everyNode nodes (chainAscends nodes children) ≡ true
   pub counts : everyChild children (countFits children) ≡ true
   pub totals : everyNode nodes (totalFits nodes children) ≡ true
+  pub apart : pointsDiffer nodes layer ≡ true
 
-module _ (nodes children : List ℕ) where
-  pub accepted : priorsRefusal nodes children ≡ 0 → Accepted nodes children
+module _ (nodes children : List ℕ) (layer : ℕ) where
+  pub accepted : priorsRefusal nodes children layer ≡ 0 → Accepted nodes children layer
   unfolding priorsRefusal
   accepted h =
       let a = unbroken (wholeRecords nodes maxNodes) 2 _ h in
@@ -45,32 +46,38 @@ module _ (nodes children : List ℕ) where
       let i = unbroken (everyNode nodes (chainAscends nodes children)) 5 _ (g .1) in
       let j = unbroken (everyChild children (countFits children)) 6 _ (i .1) in
       let k = unbroken (everyNode nodes (totalFits nodes children)) 6 _ (j .1) in
-      record { ordered = d .0; firsts = e .0; rising = f .0; lengths = g .0; ascending = i .0; counts = j .0; totals = k .0 }
+      let m = unbroken (pointsDiffer nodes layer) 21 _ (k .1) in
+      record { ordered = d .0; firsts = e .0; rising = f .0; lengths = g .0; ascending = i .0; counts = j .0; totals = k .0; apart = m .0 }
+
+-- 3: whole records are not too many
+pub not-too-many : (s : List ℕ) (most : ℕ) → wholeRecords s most ≡ true → recordCount s ≤ most
+unfolding wholeRecords
+not-too-many s most h = leb-true (recordCount s) most (second-true (eqb (length s % recordSize) 0) (leb (recordCount s) most) h)
 
 -- ---- a record that is found is one of the list
 
-found-in : (k : ℕ) (rs : List Record) (r : Record) → findRecord k rs ≡ some r → (i : ℕ) × ((i < length rs) × (getD rs i noRecord ≡ r))
+found-in : (layer k : ℕ) (rs : List Record) (r : Record) → findRecord layer k rs ≡ some r → (i : ℕ) × ((i < length rs) × (getD rs i noRecord ≡ r))
 unfolding findRecord
-found-in k [] r h = let z : _≡_ {A = ℕ} 0 1 = cc in absurd (omega arith)
-found-in k (x ∷ rs) r h = go (eqb (x .rank) k) h (found-in k rs r)
+found-in layer k [] r h = let z : _≡_ {A = ℕ} 0 1 = cc in absurd (omega arith)
+found-in layer k (x ∷ rs) r h = go (answers layer k (x .rank)) h (found-in layer k rs r)
   where
-    go : (b : Bool) → cond b (some x) (findRecord k rs) ≡ some r → (findRecord k rs ≡ some r → (i : ℕ) × ((i < length rs) × (getD rs i noRecord ≡ r)))
+    go : (b : Bool) → cond b (some x) (findRecord layer k rs) ≡ some r → (findRecord layer k rs ≡ some r → (i : ℕ) × ((i < length rs) × (getD rs i noRecord ≡ r)))
         → (i : ℕ) × ((i < suc (length rs)) × (getD (x ∷ rs) i noRecord ≡ r))
     go true h on = (0, (omega arith, cc))
     go false h on = let p = on h in (suc (p .0), (omega (arith, p .1 .0), p .1 .1))
 
 -- its count is a field
-pub found-small : (nodes : List ℕ) → Bytes nodes → (k : ℕ) (r : Record) → findRecord k (records nodes) ≡ some r → r .count < 2 ^ 32
+pub found-small : (nodes : List ℕ) → Bytes nodes → (layer k : ℕ) (r : Record) → findRecord layer k (records nodes) ≡ some r → r .count < 2 ^ 32
 unfolding recordAt
-found-small nodes bytes k r h =
-    let p = found-in k (records nodes) r h in
+found-small nodes bytes layer k r h =
+    let p = found-in layer k (records nodes) r h in
     let is : recordAt nodes (p .0) ≡ r = sym (getD-records nodes (p .0) (omega (arith, length-records nodes, p .1 .0))) ∙ p .1 .1 in
     rw (← is) (word-lt nodes bytes (16 * p .0 + 8))
 
 -- a rule that every node record keeps holds for one that is found
-found-keeps : (nodes : List ℕ) (test : Record → Bool) → everyNode nodes (λ i. test (recordAt nodes i)) ≡ true → (k : ℕ) (r : Record) → findRecord k (records nodes) ≡ some r → test r ≡ true
-found-keeps nodes test all k r h =
-    let p = found-in k (records nodes) r h in
+found-keeps : (nodes : List ℕ) (test : Record → Bool) → everyNode nodes (λ i. test (recordAt nodes i)) ≡ true → (layer k : ℕ) (r : Record) → findRecord layer k (records nodes) ≡ some r → test r ≡ true
+found-keeps nodes test all layer k r h =
+    let p = found-in layer k (records nodes) r h in
     let l : p .0 < recordCount nodes = omega (arith, length-records nodes, p .1 .0) in
     let is : recordAt nodes (p .0) ≡ r = sym (getD-records nodes (p .0) l) ∙ p .1 .1 in
     ap test (sym is) ∙ all-at (λ i. test (recordAt nodes i)) (recordCount nodes) (p .0) all l
@@ -86,13 +93,13 @@ pub record Positive (p : Counts) : Type 0 where
   pub total-positive : 0 < total p
   pub count-positive : (k c : ℕ) → countOf k (p .children) ≡ some c → 0 < c
 
-module _ (nodes children : List ℕ) (ok : Accepted nodes children) where
-  pub found-fits : (k : ℕ) (r : Record) → findRecord k (records nodes) ≡ some r → ChainFits children r
+module _ (nodes children : List ℕ) (layer : ℕ) (ok : Accepted nodes children layer) where
+  pub found-fits : (k : ℕ) (r : Record) → findRecord layer k (records nodes) ≡ some r → ChainFits children r
   unfolding firstLinkFits chainFits chainAscends
   found-fits k r h = record {
-    link-fits = leb-true (r .link) (recordCount children) (found-keeps nodes (λ n. leb (n .link) (recordCount children)) (ok .firsts) k r h);
-    short = leb-true (length (chainOf children (r .link))) maxChain (found-keeps nodes (λ n. leb (length (chainOf children (n .link))) maxChain) (ok .lengths) k r h);
-    ascending = found-keeps nodes (λ n. ascends (chainOf children (n .link))) (ok .ascending) k r h;
+    link-fits = leb-true (r .link) (recordCount children) (found-keeps nodes (λ n. leb (n .link) (recordCount children)) (ok .firsts) layer k r h);
+    short = leb-true (length (chainOf children (r .link))) maxChain (found-keeps nodes (λ n. leb (length (chainOf children (n .link))) maxChain) (ok .lengths) layer k r h);
+    ascending = found-keeps nodes (λ n. ascends (chainOf children (n .link))) (ok .ascending) layer k r h;
   }
 
   -- the records of a chain keep 7
@@ -109,17 +116,17 @@ module _ (nodes children : List ℕ) (ok : Accepted nodes children) where
           rw e at (ltb-true 0 (recordAt children i .count) (all-at (countFits children) (recordCount children) i (ok .counts) (omega arith)))
       go false h on = on h
 
-  pub prior-positive : (k : ℕ) (p : Counts) → priorOf nodes children k ≡ some p → Positive p
+  pub prior-positive : (k : ℕ) (p : Counts) → priorOf nodes children layer k ≡ some p → Positive p
   unfolding priorOf totalFits chainOf
-  prior-positive k p h = go (findRecord k (records nodes)) refl h
+  prior-positive k p h = go (findRecord layer k (records nodes)) refl h
     where
-      go : (o : Option Record) → findRecord k (records nodes) ≡ o → Option·map (priorOfNode children) o ≡ some p → Positive p
+      go : (o : Option Record) → findRecord layer k (records nodes) ≡ o → Option·map (priorOfNode children) o ≡ some p → Positive p
       go none e h = let z : _≡_ {A = ℕ} 0 1 = cc in absurd (omega arith)
       go (some r) e h =
           let is : priorOfNode children r ≡ p = cc in
           rw (← is)
           (record {
-            total-positive = ltb-true 0 (total (priorOfNode children r)) (found-keeps nodes (λ n. ltb 0 (total (priorOfNode children n))) (ok .totals) k r e);
+            total-positive = ltb-true 0 (total (priorOfNode children r)) (found-keeps nodes (λ n. ltb 0 (total (priorOfNode children n))) (ok .totals) layer k r e);
             count-positive = chain-positive (recordCount children) (r .link) (found-fits k r e .link-fits);
           })
 

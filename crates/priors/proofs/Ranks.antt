@@ -67,7 +67,7 @@ lex a b p q hp hq =
     (λ g. rw (le-ltb a b (omega arith), lt-ltb b a g) (le-ltb (a * 2 ^ 32 + p) (b * 2 ^ 32 + q) (omega arith))))
     (three a b)
 
-lift-signed : (s t : ℤ) → SFits w32 s → SFits w32 t → ltZ s t ≡ ltb (lift (ofZ w32 s)) (lift (ofZ w32 t))
+pub lift-signed : (s t : ℤ) → SFits w32 s → SFits w32 t → ltZ s t ≡ ltb (lift (ofZ w32 s)) (lift (ofZ w32 t))
 lift-signed s t f g =
     ap₂ ltZ (sym (toZ-ofZ w32 s f)) (sym (toZ-ofZ w32 t g))
     ∙ lift-order (ofZ w32 s) (ofZ w32 t) (omega (arith, ofZ-fits w32 s f)) (omega (arith, ofZ-fits w32 t g))

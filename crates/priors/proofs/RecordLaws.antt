@@ -1,4 +1,4 @@
--- Records as a list: what stands at an index, when the list ascends, and what a search by halving finds in it. Assumes nothing.
+-- Records as a list: what stands at an index, and when the list ascends. Assumes nothing.
 use mathlib.Core.Path.{_≡_, refl, ap, _∙_}
 use mathlib.Core.Logic.{⊎-elim}
 use mathlib.Core.Bool.{true, _&&_}
@@ -78,32 +78,7 @@ pub ordered : (s : List ℕ) (i j : ℕ) → ascends (records s) ≡ true → i 
 ordered s i j h l m =
     omega (arith, ap (λ (r : Record). r .rank) (getD-records s i (omega arith)), ap (λ (r : Record). r .rank) (getD-records s j m), ordered-list (records s) i j h l (omega (arith, length-records s)))
 
--- ---- a record by its address
-
-found-at : (k : ℕ) (rs : List Record) (i : ℕ) → i < length rs → ((j : ℕ) → j < i → getD rs j noRecord .rank ≡ k → ⊥) → getD rs i noRecord .rank ≡ k → findRecord k rs ≡ some (getD rs i noRecord)
-unfolding findRecord
-found-at k [] i l h e = absurd (omega arith)
-found-at k (r ∷ rs) zero l h e = rw (eq-eqb (r .rank) k e)
-found-at k (r ∷ rs) (suc i) l h e = rw (ne-eqb (r .rank) k (h 0 (omega arith))) (found-at k rs i (omega arith) (λ j m. h (suc j) (omega arith)) e)
-
-found-nowhere : (k : ℕ) (rs : List Record) → ((j : ℕ) → j < length rs → getD rs j noRecord .rank ≡ k → ⊥) → findRecord k rs ≡ none
-unfolding findRecord
-found-nowhere k [] h = refl
-found-nowhere k (r ∷ rs) h = rw (ne-eqb (r .rank) k (h 0 (omega arith))) (found-nowhere k rs (λ j m. h (suc j) (omega arith)))
-
-module _ (s : List ℕ) (k : ℕ) where
-  rank-is : (j : ℕ) → j < recordCount s → getD (records s) j noRecord .rank ≡ recordAt s j .rank
-  rank-is j l = ap (λ (r : Record). r .rank) (getD-records s j l)
-
-  -- all before i are below
-  pub found-record : (i : ℕ) → i < recordCount s → ((j : ℕ) → j < i → recordAt s j .rank < k) → recordAt s i .rank ≡ k → findRecord k (records s) ≡ some (recordAt s i)
-  found-record i l h e =
-      found-at k (records s) i (omega (arith, length-records s)) (λ j m q. omega (arith, rank-is j (omega arith), h j m)) (rank-is i l ∙ e)
-      ∙ ap some (getD-records s i l)
-
-  -- all before i are below, all from i on above
-  pub no-record : (i : ℕ) → ((j : ℕ) → j < i → recordAt s j .rank < k) → ((j : ℕ) → i ≤ j → j < recordCount s → k < recordAt s j .rank) → findRecord k (records s) ≡ none
-  no-record i h g =
-      found-nowhere k (records s) (λ j m q.
-      let l : j < recordCount s = omega (arith, length-records s) in
-      ⊎-elim (λ b. omega (arith, rank-is j l, h j b)) (λ b. omega (arith, rank-is j l, g j b l)) (split j i))
+-- not strictly
+pub not-below : (s : List ℕ) → ascends (records s) ≡ true → (i j : ℕ) → i ≤ j → j < recordCount s → recordAt s i .rank ≤ recordAt s j .rank
+not-below s up i j l m =
+    ⊎-elim (λ b. omega (arith, ordered s i j up b m)) (λ b. let e : i ≡ j = omega arith in omega (arith, ap (λ (k : ℕ). recordAt s k .rank) e)) (split i j)

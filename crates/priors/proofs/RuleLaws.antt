@@ -10,7 +10,7 @@ use lib.Ieee.{Float}
 use Rattle.priors.specs.declared.refusals.Refusal.{Refusal}
 use Rattle.priors.specs.declared.refusals.Refusal.the-variants.{Plain, AtNode}
 use Rattle.priors.specs.declared.refusals.Reason.{Reason}
-use Rattle.priors.specs.declared.refusals.Reason.the-variants.{TableLengths, TableEntry, PriorSizes, NodeOrder, Links, ChainOrder, ZeroPrior, Window, Form, PathLength, PathsFull, BookFull, OutputShort, TrainingInput, BaselineInput, OneKnot}
+use Rattle.priors.specs.declared.refusals.Reason.the-variants.{TableLengths, TableEntry, PriorSizes, NodeOrder, Links, ChainOrder, ZeroPrior, Window, Form, PathLength, PathsFull, BookFull, OutputShort, TrainingInput, BaselineInput, OneKnot, SharedPoint}
 use Rattle.priors.specs.declared.refusals.NodeReason.the-variants.{MissingChild, PastTable}
 use Rattle.priors.specs.Rules.{Rule, firstBroken}
 use Rattle.priors.specs.Refusals.{reasonNumber, numberOf, namedNode}
@@ -44,9 +44,9 @@ pub tables-keep : (test : ℕ → Bool) (g d : List Float) → test 0 ≡ true �
 unfolding tablesRefusal
 tables-keep test g d z h = broken-keeps test (tableRules g d) z h
 
-pub priors-keep : (test : ℕ → Bool) (nodes children : List ℕ) → test 0 ≡ true → numbersKeep test (priorRules nodes children) ≡ true → test (priorsRefusal nodes children) ≡ true
+pub priors-keep : (test : ℕ → Bool) (nodes children : List ℕ) (layer : ℕ) → test 0 ≡ true → numbersKeep test (priorRules nodes children layer) ≡ true → test (priorsRefusal nodes children layer) ≡ true
 unfolding priorsRefusal
-priors-keep test nodes children z h = broken-keeps test (priorRules nodes children) z h
+priors-keep test nodes children layer z h = broken-keeps test (priorRules nodes children layer) z h
 
 -- ---- refusals
 
@@ -67,6 +67,7 @@ reason-some OutputShort = (12, refl)
 reason-some TrainingInput = (15, refl)
 reason-some BaselineInput = (16, refl)
 reason-some OneKnot = (17, refl)
+reason-some SharedPoint = (21, refl)
 
 -- a refusal's number is not 0
 pub some-number : (r : Refusal) → (m : ℕ) × (numberOf r ≡ suc m)

@@ -1,6 +1,6 @@
 -- `Limits` names the numbers of document 01. `Word` and `Address` say how numbers and addresses lie in bytes and how addresses are ordered, `Refusals` has every
--- refusal's number, `Tables` and `Priors` what the lent tables and records hold and which number they get, `Lookups` what a look-up answers. `Rows` and `Search`
--- are about lists of (key, count), `Below` about indices, `Rules` about the first of several rules that is broken.
+-- refusal's number, `Tables` and `Priors` what the lent tables and records hold and which number they get, `Lookups` what a look-up answers, `Floors` what
+-- the floor promises, `Layer` what a search shows on the way. `Rows` and `Search` are about lists of (key, count), `Below` about indices, `Rules` about the first of several rules that is broken.
 pub mod Limits
 pub mod Word
 pub mod Address
@@ -11,4 +11,6 @@ pub mod Tables
 pub mod Rows
 pub mod Search
 pub mod Priors
+pub mod Layer
 pub mod Lookups
+pub mod Floors

@@ -1,25 +1,29 @@
--- Priors: node records and child records in lent bytes, the chain of a node, its prior, and numbers 3 to 7. Assumes nothing.
-use Prim.Native.Nat.{ℕ, zero, suc, _+_, _*_, _/_, _%_}
-use mathlib.Core.Bool.{Bool, true, cond, _&&_, _||_}
-use mathlib.Core.List.{List, [], _∷_, map}
+-- Priors: node records and child records in lent bytes, the chain of a node, its prior, and numbers 3 to 7 and 22. Assumes nothing.
+use Prim.Native.Nat.{ℕ, zero, suc, _+_, _*_, _/_, _%_, _^_}
+use mathlib.Core.Bool.{Bool, true, cond, not, _&&_, _||_}
+use mathlib.Core.List.{List, [], _∷_, _++_, map}
 use mathlib.Core.Option.{Option, none, some, Option·map}
 use lib.Dec.{eqb, leb, ltb}
+use lib.IntN.{ℤ}
 use lib.ListN.{length}
+use mir.Syntax.{w32}
+use mir.Val.{ofZ}
 use Rattle.priors.specs.Word.{word}
-use Rattle.priors.specs.Address.{rankAt}
+use Rattle.priors.specs.Address.{lift, rankAt}
 use Rattle.priors.specs.Rows.{Row, row}
 use Rattle.priors.specs.Below.{allBelow, listOf}
 use Rattle.priors.specs.Rules.{Rule, rule, firstBroken}
 use Rattle.priors.specs.Limits.{maxNodes, maxChildren, maxChain, recordSize}
 use Rattle.priors.specs.declared.records.Record.{Record}
 
--- what a call is lent as priors: node records and child records
+-- what a call is lent as priors: node records, child records and a floor scale
 pub record LentPriors : Type 0 where
   pub nodes : List ℕ
   pub children : List ℕ
+  pub floor : ℤ
 
-abbrev pub lentPriors : List ℕ → List ℕ → LentPriors
-lentPriors nodes children = record { nodes = nodes; children = children }
+abbrev pub lentPriors : List ℕ → List ℕ → ℤ → LentPriors
+lentPriors nodes children floor = record { nodes = nodes; children = children; floor = floor }
 
 -- ---- records
 
@@ -68,14 +72,33 @@ childrenOf children link = map (λ (r : Record). row (r .rank) (r .count)) (chai
 abbrev pub priorOfNode : List ℕ → Record → Counts
 priorOfNode children node = record { ending = node .count; children = childrenOf children (node .link) }
 
--- a record by its exact address
-unfoldable pub findRecord : ℕ → List Record → Option Record
-findRecord rank [] = none
-findRecord rank (r ∷ rs) = cond (eqb (r .rank) rank) (some r) (findRecord rank rs)
+-- the scales below the floor share a layer: their number
+abbrev pub layerOf : ℤ → ℕ
+layerOf floor = lift (ofZ w32 floor)
+
+-- an address in the layer: its scale is below the floor (`below-floor` of proofs/LayerLaws.antt)
+abbrev pub inLayer : (layer rank : ℕ) → Bool
+inLayer layer rank = ltb (rank / 2 ^ 32) layer
+
+abbrev pub pointOf : ℕ → ℕ
+pointOf rank = rank % 2 ^ 32
+
+-- two addresses in the layer with one point
+unfoldable pub clash : (layer a b : ℕ) → Bool
+clash layer a b = inLayer layer a && (inLayer layer b && eqb (pointOf a) (pointOf b))
+
+-- the node record with the rank `own` is the one that `wanted` is looked up by: in the layer by point among those in it, else by exact address
+unfoldable pub answers : (layer wanted own : ℕ) → Bool
+answers layer wanted own = cond (inLayer layer wanted) (clash layer wanted own) (eqb own wanted)
+
+-- the first such record; where 4 and 22 pass there is at most one (`one-answers` of proofs/LayerLaws.antt)
+unfoldable pub findRecord : (layer wanted : ℕ) → List Record → Option Record
+findRecord layer wanted [] = none
+findRecord layer wanted (r ∷ rs) = cond (answers layer wanted (r .rank)) (some r) (findRecord layer wanted rs)
 
 -- the prior of an address, if a node record has it
-unfoldable pub priorOf : List ℕ → List ℕ → ℕ → Option Counts
-priorOf nodes children rank = Option·map (priorOfNode children) (findRecord rank (records nodes))
+unfoldable pub priorOf : (nodes children : List ℕ) (layer rank : ℕ) → Option Counts
+priorOf nodes children layer rank = Option·map (priorOfNode children) (findRecord layer rank (records nodes))
 
 unfoldable pub countSum : List Row → ℕ
 countSum [] = 0
@@ -123,8 +146,17 @@ everyNode nodes test = allBelow (recordCount nodes) test
 abbrev pub everyChild : List ℕ → (ℕ → Bool) → Bool
 everyChild children test = allBelow (recordCount children) test
 
-abbrev pub priorRules : List ℕ → List ℕ → List Rule
-priorRules nodes children =
+-- 22: the node record i clashes with none before it
+unfoldable pub clearBefore : (nodes : List ℕ) (layer i : ℕ) → Bool
+clearBefore nodes layer i = allBelow i (λ j. not (clash layer (recordAt nodes i .rank) (recordAt nodes j .rank)))
+
+-- 22: no two node records below the floor have one point
+unfoldable pub pointsDiffer : (nodes : List ℕ) (layer : ℕ) → Bool
+pointsDiffer nodes layer = everyNode nodes (clearBefore nodes layer)
+
+-- document 01's rules, then the floor's
+abbrev pub recordRules : (nodes children : List ℕ) → List Rule
+recordRules nodes children =
     rule 3 (wholeRecords nodes maxNodes)
     ∷ rule 3 (wholeRecords children maxChildren)
     ∷ rule 4 (ascends (records nodes))
@@ -136,5 +168,8 @@ priorRules nodes children =
     ∷ rule 7 (everyNode nodes (totalFits nodes children))
     ∷ []
 
-unfoldable pub priorsRefusal : List ℕ → List ℕ → ℕ
-priorsRefusal nodes children = firstBroken (priorRules nodes children)
+abbrev pub priorRules : (nodes children : List ℕ) (layer : ℕ) → List Rule
+priorRules nodes children layer = recordRules nodes children ++ rule 22 (pointsDiffer nodes layer) ∷ []
+
+unfoldable pub priorsRefusal : (nodes children : List ℕ) (layer : ℕ) → ℕ
+priorsRefusal nodes children layer = firstBroken (priorRules nodes children layer)

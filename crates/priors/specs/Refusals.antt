@@ -5,7 +5,7 @@ use Rattle.priors.specs.declared.addresses.Address.{Address}
 use Rattle.priors.specs.declared.refusals.Refusal.{Refusal}
 use Rattle.priors.specs.declared.refusals.Refusal.the-variants.{Plain, AtNode}
 use Rattle.priors.specs.declared.refusals.Reason.{Reason}
-use Rattle.priors.specs.declared.refusals.Reason.the-variants.{TableLengths, TableEntry, PriorSizes, NodeOrder, Links, ChainOrder, ZeroPrior, Window, Form, PathLength, PathsFull, BookFull, OutputShort, TrainingInput, BaselineInput, OneKnot}
+use Rattle.priors.specs.declared.refusals.Reason.the-variants.{TableLengths, TableEntry, PriorSizes, NodeOrder, Links, ChainOrder, ZeroPrior, Window, Form, PathLength, PathsFull, BookFull, OutputShort, TrainingInput, BaselineInput, OneKnot, SharedPoint}
 use Rattle.priors.specs.declared.refusals.NodeReason.{NodeReason}
 use Rattle.priors.specs.declared.refusals.NodeReason.the-variants.{MissingChild, PastTable}
 use Rattle.priors.specs.declared.refusals.Checked.{Checked}
@@ -28,6 +28,7 @@ reasonNumber OutputShort = 13
 reasonNumber TrainingInput = 16
 reasonNumber BaselineInput = 17
 reasonNumber OneKnot = 18
+reasonNumber SharedPoint = 22
 
 abbrev pub nodeReasonNumber : NodeReason → ℕ
 nodeReasonNumber MissingChild = 14

@@ -7,6 +7,7 @@ ghost use mir.Syntax.{w32};
 ghost use mir.Val.{ofZ, toZ};
 ghost use Rattle.priors.specs.Word.{store};
 ghost use Rattle.priors.specs.Address.{lift, rank, rankAt, rankOf, addressOf, addressBytes};
+ghost use Rattle.priors.specs.Priors.{layerOf};
 use crate::words::read_u32;
 use crate::words::write_u32;
 
@@ -77,6 +78,13 @@ pub fn rank_of(scale: i32, point: u32) -> u64
     ensures { λ r. ⌜ r ≡ rankOf scale point ⌝ }
 {
     rank(bits_of(scale), point)
+}
+
+// How many scales lie below this one.
+pub fn layer_of(floor: i32) -> u32
+    ensures { λ r. ⌜ r ≡ layerOf floor ⌝ }
+{
+    lift(bits_of(floor))
 }
 
 // The address with this rank.

@@ -1,5 +1,5 @@
-// The rules for prior records, numbers 3 to 7, each over all records before the next. Links and counts are tested in every record,
-// reached or not; length and order along each chain that starts at a node. The work is every node record five times, every child record
+// The rules for prior records, numbers 3 to 7 and 22, each over all records before the next. Links and counts are tested in every record,
+// reached or not; length and order along each chain that starts at a node. The work is every node record six times, every child record
 // twice, and twice at most 64 records for each node.
 ghost use mathlib.Core.Path.{_≡_};
 ghost use mathlib.Core.Bool.{true};
@@ -9,6 +9,7 @@ ghost use lib.ListN.{length};
 ghost use Rattle.priors.specs.Limits.{maxChain, recordSize};
 ghost use Rattle.priors.specs.Refusals.{checkedNumber};
 ghost use Rattle.priors.specs.Priors.{records, recordCount, ascends, chainOf, wholeRecords, everyNode, everyChild, firstLinkFits, nextLinkFits, chainFits, chainAscends, countFits, totalFits, priorOfNode, total, priorsRefusal};
+use crate::layers::points_differ;
 use crate::records::RECORD_SIZE;
 use crate::records::Record;
 use crate::records::record_at;
@@ -220,9 +221,9 @@ fn totals_fit(nodes: &[u8], children: &[u8]) -> bool
     true
 }
 
-// Numbers 3 to 7.
-pub fn check_priors(nodes: &[u8], children: &[u8]) -> Checked
-    ensures { λ r. ⌜ checkedNumber r ≡ priorsRefusal (now (nodes .entry)) (now (children .entry)) ⌝ }
+// Numbers 3 to 7 and 22.
+pub fn check_priors(nodes: &[u8], children: &[u8], layer: u32) -> Checked
+    ensures { λ r. ⌜ checkedNumber r ≡ priorsRefusal (now (nodes .entry)) (now (children .entry)) layer ⌝ }
 {
     if !whole_records(nodes, MAX_NODES) {
         return Checked::Refused(Refusal::Plain(Reason::PriorSizes));
@@ -250,6 +251,9 @@ pub fn check_priors(nodes: &[u8], children: &[u8]) -> Checked
     }
     if !totals_fit(nodes, children) {
         return Checked::Refused(Refusal::Plain(Reason::ZeroPrior));
+    }
+    if !points_differ(nodes, layer) {
+        return Checked::Refused(Refusal::Plain(Reason::SharedPoint));
     }
     Checked::Passed
 }

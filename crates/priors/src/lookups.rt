@@ -1,13 +1,16 @@
-// Looking up a node by its exact address, by halving, and a child by its own along its node's chain, which ascends, so that the
-// walk ends where an address is past the one wanted; and a prior's total.
+// Looking up a node by its exact address, by halving, or in the layer below the floor by its point; a child by its own address along
+// its node's chain, which ascends, so that the walk ends where an address is past the one wanted; and a prior's total.
 ghost use mathlib.Core.Path.{_≡_};
 ghost use mathlib.Core.Bool.{true};
 ghost use Prim.Native.Nat.{_≤_};
 ghost use lib.ListN.{length};
 ghost use Rattle.priors.specs.Limits.{maxChain};
 ghost use Rattle.priors.specs.Rows.{countOf};
-ghost use Rattle.priors.specs.Priors.{records, recordCount, ascends, findRecord, chainOf, childrenOf, everyChild, nextLinkFits, priorOfNode, total};
+ghost use Rattle.priors.specs.Priors.{records, recordCount, ascends, pointsDiffer, findRecord, chainOf, childrenOf, everyChild, nextLinkFits, priorOfNode, total};
+ghost use Rattle.priors.specs.Layer.{Absent};
 ghost use Rattle.priors.specs.Lookups.{nodeFound, childFound};
+use crate::places::first_from;
+use crate::places::halve;
 use crate::records::RECORD_SIZE;
 use crate::records::Record;
 use crate::records::record_at;
@@ -22,29 +25,55 @@ pub enum ChildFound {
     NoChild,
 }
 
-// The node record with this address.
-pub fn find_node(nodes: &[u8], rank: u64) -> NodeFound
+// The node record that a rank is looked up by which none has exactly: in the layer the one with its point, group by group of one scale,
+// in each the place of the one address with that scale and the point, then the first place of the next scale.
+fn find_by_point(nodes: &[u8], layer: u32, rank: u64) -> NodeFound
     requires { ⌜ ascends (records (now nodes)) ≡ true ⌝ }
-    ensures { λ r. ⌜ nodeFound r ≡ findRecord rank (records (now (nodes .entry))) ⌝ }
+    requires { ⌜ pointsDiffer (now nodes) layer ≡ true ⌝ }
+    requires { ⌜ Absent (now nodes) rank ⌝ }
+    ensures { λ r. ⌜ nodeFound r ≡ findRecord layer rank (records (now (nodes .entry))) ⌝ }
 {
-    let n = nodes.len() / RECORD_SIZE;
-    let mut lo = 0;
-    let mut hi = n;
-    while lo < hi {
-        let mid = lo + (hi - lo) / 2;
-        if record_at(nodes, mid).rank < rank {
-            lo = mid + 1;
-        } else {
-            hi = mid;
-        }
+    if layer as u64 <= rank / 4294967296 {
+        return NodeFound::NoNode;
     }
-    if lo < n {
-        let found = record_at(nodes, lo);
-        if found.rank == rank {
+    let n = nodes.len() / RECORD_SIZE;
+    let mut start = 0;
+    while start < n {
+        let own = record_at(nodes, start).rank;
+        if layer as u64 <= own / 4294967296 {
+            return NodeFound::NoNode;
+        }
+        let group = own / 4294967296 * 4294967296;
+        let key = group + rank % 4294967296;
+        let at = first_from(nodes, start, key);
+        if at == n {
+            return NodeFound::NoNode;
+        }
+        let found = record_at(nodes, at);
+        if found.rank == key {
             return NodeFound::Node(found);
         }
+        start = first_from(nodes, at, group + 4294967296);
     }
     NodeFound::NoNode
+}
+
+// The node record that this rank is looked up by: the one with this exact address, or else in the layer the one with its point.
+pub fn find_node(nodes: &[u8], layer: u32, rank: u64) -> NodeFound
+    requires { ⌜ ascends (records (now nodes)) ≡ true ⌝ }
+    requires { ⌜ pointsDiffer (now nodes) layer ≡ true ⌝ }
+    ensures { λ r. ⌜ nodeFound r ≡ findRecord layer rank (records (now (nodes .entry))) ⌝ }
+{
+    let n = nodes.len() / RECORD_SIZE;
+    let at = halve(nodes, 0, n, rank);
+    if at == n {
+        return find_by_point(nodes, layer, rank);
+    }
+    let found = record_at(nodes, at);
+    if found.rank == rank {
+        return NodeFound::Node(found);
+    }
+    find_by_point(nodes, layer, rank)
 }
 
 // The count of the child with this address in the chain that `first` starts.

@@ -26,6 +26,7 @@ pub enum Reason {
     TrainingInput,
     BaselineInput,
     OneKnot,
+    SharedPoint,
 }
 
 pub enum NodeReason {
@@ -69,6 +70,7 @@ fn reason_number(reason: Reason) -> u32
         Reason::TrainingInput => 16,
         Reason::BaselineInput => 17,
         Reason::OneKnot => 18,
+        Reason::SharedPoint => 22,
     }
 }
 

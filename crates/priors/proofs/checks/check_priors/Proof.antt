@@ -2,7 +2,8 @@ use mathlib.Core.Path.{_≡_, sym, _∙_}
 use mathlib.Core.Bool.{true, false}
 use borrow.Author.Tests.{not-true, not-false}
 use Rattle.priors.specs.Limits.{maxNodes, maxChildren}
-use Rattle.priors.specs.Priors.{records, ascends, wholeRecords, everyNode, everyChild, firstLinkFits, nextLinkFits, chainFits, chainAscends, countFits, totalFits, priorsRefusal}
+use Rattle.priors.specs.Priors.{records, ascends, wholeRecords, everyNode, everyChild, firstLinkFits, nextLinkFits, chainFits, chainAscends, countFits, totalFits, pointsDiffer, priorsRefusal}
+use Rattle.priors.proofs.PriorLaws.{not-too-many}
 use borrow.Author.Needs.{needs}
 use Rattle.priors.proofs.checks.check_priors.Statement.{statement}
 use Rattle.priors.proofs.checks.check_priors.Tie as tie
@@ -142,21 +143,48 @@ returns-9 c =
     let totals : everyNode nodes (totalFits nodes children) ≡ false = sym (c .before .totals-fit .ensures) ∙ not-true _ (c .if9 .taken) in
     rw (nodes-whole, children-whole, nodes-order, firsts, nexts, lengths, orders, counts, totals)
 
+points-differ-requires : tie.Need-points-differ-requires
+points-differ-requires c κs =
+    let nodes = c .before .before .before .before .before .before .before .before .before .before .before .before .before .before .before .before .before .before .before .before .args .nodes .now in
+    let nodes-whole : wholeRecords nodes maxNodes ≡ true = sym (c .before .before .before .before .before .before .before .before .before .before .before .before .before .before .before .before .before .whole-records .ensures) ∙ not-false _ (c .before .before .before .before .before .before .before .before .before .before .before .before .before .before .before .before .if1 .left) in
+    let nodes-order : ascends (records nodes) ≡ true = sym (c .before .before .before .before .before .before .before .before .before .before .before .before .before .nodes-ascend .ensures) ∙ not-false _ (c .before .before .before .before .before .before .before .before .before .before .before .before .if3 .left) in
+    (nodes-order, not-too-many nodes maxNodes nodes-whole)
+
 returns-10 : tie.Need-returns-10
 unfolding priorsRefusal
 returns-10 c =
-    let nodes = c .before .before .before .before .before .before .before .before .before .before .before .before .before .before .before .before .before .before .before .before .args .nodes .now in
-    let children = c .before .before .before .before .before .before .before .before .before .before .before .before .before .before .before .before .before .before .before .before .args .children .now in
-    let nodes-whole : wholeRecords nodes maxNodes ≡ true = sym (c .before .before .before .before .before .before .before .before .before .before .before .before .before .before .before .before .before .whole-records .ensures) ∙ not-false _ (c .before .before .before .before .before .before .before .before .before .before .before .before .before .before .before .before .if1 .left) in
-    let children-whole : wholeRecords children maxChildren ≡ true = sym (c .before .before .before .before .before .before .before .before .before .before .before .before .before .before .before .whole-records2 .ensures) ∙ not-false _ (c .before .before .before .before .before .before .before .before .before .before .before .before .before .before .if2 .left) in
-    let nodes-order : ascends (records nodes) ≡ true = sym (c .before .before .before .before .before .before .before .before .before .before .before .before .before .nodes-ascend .ensures) ∙ not-false _ (c .before .before .before .before .before .before .before .before .before .before .before .before .if3 .left) in
-    let firsts : everyNode nodes (firstLinkFits nodes children) ≡ true = sym (c .before .before .before .before .before .before .before .before .before .before .before .first-links-fit .ensures) ∙ not-false _ (c .before .before .before .before .before .before .before .before .before .before .if4 .left) in
-    let nexts : everyChild children (nextLinkFits children) ≡ true = sym (c .before .before .before .before .before .before .before .before .before .next-links-fit .ensures) ∙ not-false _ (c .before .before .before .before .before .before .before .before .if5 .left) in
-    let lengths : everyNode nodes (chainFits nodes children) ≡ true = sym (c .before .before .before .before .before .before .before .chains-fit .ensures) ∙ not-false _ (c .before .before .before .before .before .before .if6 .left) in
-    let orders : everyNode nodes (chainAscends nodes children) ≡ true = sym (c .before .before .before .before .before .chains-ascend .ensures) ∙ not-false _ (c .before .before .before .before .if7 .left) in
-    let counts : everyChild children (countFits children) ≡ true = sym (c .before .before .before .counts-fit .ensures) ∙ not-false _ (c .before .before .if8 .left) in
-    let totals : everyNode nodes (totalFits nodes children) ≡ true = sym (c .before .totals-fit .ensures) ∙ not-false _ (c .if9 .left) in
-    rw (nodes-whole, children-whole, nodes-order, firsts, nexts, lengths, orders, counts, totals)
+    let nodes = c .before .before .before .before .before .before .before .before .before .before .before .before .before .before .before .before .before .before .before .before .before .before .args .nodes .now in
+    let children = c .before .before .before .before .before .before .before .before .before .before .before .before .before .before .before .before .before .before .before .before .before .before .args .children .now in
+    let layer = c .before .before .before .before .before .before .before .before .before .before .before .before .before .before .before .before .before .before .before .before .before .before .args .layer in
+    let nodes-whole : wholeRecords nodes maxNodes ≡ true = sym (c .before .before .before .before .before .before .before .before .before .before .before .before .before .before .before .before .before .before .before .whole-records .ensures) ∙ not-false _ (c .before .before .before .before .before .before .before .before .before .before .before .before .before .before .before .before .before .before .if1 .left) in
+    let children-whole : wholeRecords children maxChildren ≡ true = sym (c .before .before .before .before .before .before .before .before .before .before .before .before .before .before .before .before .before .whole-records2 .ensures) ∙ not-false _ (c .before .before .before .before .before .before .before .before .before .before .before .before .before .before .before .before .if2 .left) in
+    let nodes-order : ascends (records nodes) ≡ true = sym (c .before .before .before .before .before .before .before .before .before .before .before .before .before .before .before .nodes-ascend .ensures) ∙ not-false _ (c .before .before .before .before .before .before .before .before .before .before .before .before .before .before .if3 .left) in
+    let firsts : everyNode nodes (firstLinkFits nodes children) ≡ true = sym (c .before .before .before .before .before .before .before .before .before .before .before .before .before .first-links-fit .ensures) ∙ not-false _ (c .before .before .before .before .before .before .before .before .before .before .before .before .if4 .left) in
+    let nexts : everyChild children (nextLinkFits children) ≡ true = sym (c .before .before .before .before .before .before .before .before .before .before .before .next-links-fit .ensures) ∙ not-false _ (c .before .before .before .before .before .before .before .before .before .before .if5 .left) in
+    let lengths : everyNode nodes (chainFits nodes children) ≡ true = sym (c .before .before .before .before .before .before .before .before .before .chains-fit .ensures) ∙ not-false _ (c .before .before .before .before .before .before .before .before .if6 .left) in
+    let orders : everyNode nodes (chainAscends nodes children) ≡ true = sym (c .before .before .before .before .before .before .before .chains-ascend .ensures) ∙ not-false _ (c .before .before .before .before .before .before .if7 .left) in
+    let counts : everyChild children (countFits children) ≡ true = sym (c .before .before .before .before .before .counts-fit .ensures) ∙ not-false _ (c .before .before .before .before .if8 .left) in
+    let totals : everyNode nodes (totalFits nodes children) ≡ true = sym (c .before .before .before .totals-fit .ensures) ∙ not-false _ (c .before .before .if9 .left) in
+    let apart : pointsDiffer nodes layer ≡ false = sym (c .before .points-differ .ensures) ∙ not-true _ (c .if10 .taken) in
+    rw (nodes-whole, children-whole, nodes-order, firsts, nexts, lengths, orders, counts, totals, apart)
+
+returns-11 : tie.Need-returns-11
+unfolding priorsRefusal
+returns-11 c =
+    let nodes = c .before .before .before .before .before .before .before .before .before .before .before .before .before .before .before .before .before .before .before .before .before .before .args .nodes .now in
+    let children = c .before .before .before .before .before .before .before .before .before .before .before .before .before .before .before .before .before .before .before .before .before .before .args .children .now in
+    let layer = c .before .before .before .before .before .before .before .before .before .before .before .before .before .before .before .before .before .before .before .before .before .before .args .layer in
+    let nodes-whole : wholeRecords nodes maxNodes ≡ true = sym (c .before .before .before .before .before .before .before .before .before .before .before .before .before .before .before .before .before .before .before .whole-records .ensures) ∙ not-false _ (c .before .before .before .before .before .before .before .before .before .before .before .before .before .before .before .before .before .before .if1 .left) in
+    let children-whole : wholeRecords children maxChildren ≡ true = sym (c .before .before .before .before .before .before .before .before .before .before .before .before .before .before .before .before .before .whole-records2 .ensures) ∙ not-false _ (c .before .before .before .before .before .before .before .before .before .before .before .before .before .before .before .before .if2 .left) in
+    let nodes-order : ascends (records nodes) ≡ true = sym (c .before .before .before .before .before .before .before .before .before .before .before .before .before .before .before .nodes-ascend .ensures) ∙ not-false _ (c .before .before .before .before .before .before .before .before .before .before .before .before .before .before .if3 .left) in
+    let firsts : everyNode nodes (firstLinkFits nodes children) ≡ true = sym (c .before .before .before .before .before .before .before .before .before .before .before .before .before .first-links-fit .ensures) ∙ not-false _ (c .before .before .before .before .before .before .before .before .before .before .before .before .if4 .left) in
+    let nexts : everyChild children (nextLinkFits children) ≡ true = sym (c .before .before .before .before .before .before .before .before .before .before .before .next-links-fit .ensures) ∙ not-false _ (c .before .before .before .before .before .before .before .before .before .before .if5 .left) in
+    let lengths : everyNode nodes (chainFits nodes children) ≡ true = sym (c .before .before .before .before .before .before .before .before .before .chains-fit .ensures) ∙ not-false _ (c .before .before .before .before .before .before .before .before .if6 .left) in
+    let orders : everyNode nodes (chainAscends nodes children) ≡ true = sym (c .before .before .before .before .before .before .before .chains-ascend .ensures) ∙ not-false _ (c .before .before .before .before .before .before .if7 .left) in
+    let counts : everyChild children (countFits children) ≡ true = sym (c .before .before .before .before .before .counts-fit .ensures) ∙ not-false _ (c .before .before .before .before .if8 .left) in
+    let totals : everyNode nodes (totalFits nodes children) ≡ true = sym (c .before .before .before .totals-fit .ensures) ∙ not-false _ (c .before .before .if9 .left) in
+    let apart : pointsDiffer nodes layer ≡ true = sym (c .before .points-differ .ensures) ∙ not-false _ (c .if10 .left) in
+    rw (nodes-whole, children-whole, nodes-order, firsts, nexts, lengths, orders, counts, totals, apart)
 
 pub check-priors-spec : {M : Type 1} → statement M
 check-priors-spec =
@@ -180,4 +208,6 @@ check-priors-spec =
     returns-8
     totals-fit-requires
     returns-9
-    returns-10)
+    points-differ-requires
+    returns-10
+    returns-11)
