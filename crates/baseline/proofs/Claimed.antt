@@ -31,7 +31,7 @@ calls-bytes x h first i (suc m) = (path-bytes (x .sequences) (first + i) h, go (
     rest : List Call
     rest = callsFrom x first (suc i) m
 
-    go : (b : Bool) → All InBytes rest → All InBytes (cond b (read (klDivStats (lentTables (x .G) (x .D)) (lentPriors (x .nodes) (x .children))) ∷ rest) rest)
+    go : (b : Bool) → All InBytes rest → All InBytes (cond b (read (klDivStats (lentTables (x .G) (x .D)) (lentPriors (x .nodes) (x .children) (x .floor))) ∷ rest) rest)
     go true t = (tt, t)
     go false t = t
 
@@ -57,10 +57,10 @@ records-are x first r i (suc m) = go (addRefusal r path) (eqb (i % x .rate) 0) (
     rest = callsFrom x first (suc i) m
 
     go : (n : ℕ) (b : Bool) → recordsIn (runs recounted after rest .0) ≡ recordsFrom x first after (suc i) m
-        → unlessStopped n (recordsIn (runs recounted (unlessRefused n after r) (cond b (read (klDivStats (lentTables (x .G) (x .D)) (lentPriors (x .nodes) (x .children))) ∷ rest) rest) .0))
+        → unlessStopped n (recordsIn (runs recounted (unlessRefused n after r) (cond b (read (klDivStats (lentTables (x .G) (x .D)) (lentPriors (x .nodes) (x .children) (x .floor))) ∷ rest) rest) .0))
         ≡ unlessStopped n (cond b (andThen (recountStats x after) (recordsFrom x first after (suc i) m)) (recordsFrom x first after (suc i) m))
     go (suc n) b ih = refl
-    go zero true ih = record-told (statsAsked (recountSeen (after .window) (after .paths)) (lentTables (x .G) (x .D)) (lentPriors (x .nodes) (x .children))) (recordsIn (runs recounted after rest .0)) ∙ ap (λ (u : Until (List KLDivergenceStats)). andThen (recountStats x after) u) ih
+    go zero true ih = record-told (statsAsked (recountSeen (after .window) (after .paths)) (lentTables (x .G) (x .D)) (lentPriors (x .nodes) (x .children) (x .floor))) (recordsIn (runs recounted after rest .0)) ∙ ap (λ (u : Until (List KLDivergenceStats)). andThen (recountStats x after) u) ih
     go zero false ih = ih
 
 opened-records : (x : Input) (r : Recount) (book : List ℕ) → openRefusal 0 (length book) 0 ≡ 0 → (q : ℕ) → recordsIn (runs recounted r (sequenceCalls x book q) .0) ≡ sequenceRecords x (length book) q

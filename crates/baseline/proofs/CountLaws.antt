@@ -50,11 +50,11 @@ visited-le node NoPrior (walked ps k) n h = omega arith
 visited-le node MissingChild rest n h = zero-le
 visited-le node PastTable rest n h = zero-le
 
-places-le : (G D : List Float) (nodes children : List ℕ) (ns : List Node) → length (places (walk G D nodes children ns)) ≤ length ns
+places-le : (G D : List Float) (nodes children : List ℕ) (layer : ℕ) (ns : List Node) → length (places (walk G D nodes children layer ns)) ≤ length ns
 unfolding walk
-places-le G D nodes children [] = zero-le
-places-le G D nodes children (n ∷ ns) =
-    visited-le (n .address) (nodeDivergence G D (priorOf nodes children (n .address)) (n .evidence)) (walk G D nodes children ns) (length ns) (places-le G D nodes children ns)
+places-le G D nodes children layer [] = zero-le
+places-le G D nodes children layer (n ∷ ns) =
+    visited-le (n .address) (nodeDivergence G D (priorOf nodes children layer (n .address)) (n .evidence)) (walk G D nodes children layer ns) (length ns) (places-le G D nodes children layer ns)
 
 -- ---- the number of divergences
 
@@ -77,21 +77,21 @@ number-le paths (walked ps k) a e =
     let same : a .stats ≡ statsOver (noStats paths) ps = cc in
     rw same (omega (arith, over-le (noStats paths) ps))
 
-counted-le : (G D : List Float) (nodes children : List ℕ) (rs : List Row) (paths : ℕ) (a : Statistics) → answered a ≡ statsReadingOf paths (walk G D nodes children (listedNodes rs))
+counted-le : (G D : List Float) (nodes children : List ℕ) (layer : ℕ) (rs : List Row) (paths : ℕ) (a : Statistics) → answered a ≡ statsReadingOf paths (walk G D nodes children layer (listedNodes rs))
     → a .stats .«nz_count» ≤ length rs
 unfolding listedNodes
-counted-le G D nodes children rs paths a e =
-    omega (arith, number-le paths (walk G D nodes children (listedNodes rs)) a e, places-le G D nodes children (listedNodes rs), nodes-le rs)
+counted-le G D nodes children layer rs paths a e =
+    omega (arith, number-le paths (walk G D nodes children layer (listedNodes rs)) a e, places-le G D nodes children layer (listedNodes rs), nodes-le rs)
 
 -- ---- the statistics of the used entries
 
-module _ (G D : List Float) (nodes children book : List ℕ) (used paths : ℕ) (r : Reading Statistics) (is : r ≡ statsReadingOf paths (walk G D nodes children (nodesFrom book 0 used))) where
-  all-entries : r ≡ statsReadingOf paths (walk G D nodes children (listedNodes (rows book used)))
-  all-entries = let e : used - 0 ≡ used = omega arith in is ∙ ap (λ (n : ℕ). statsReadingOf paths (walk G D nodes children (listedNodes (rows book n)))) e
+module _ (G D : List Float) (nodes children : List ℕ) (layer : ℕ) (book : List ℕ) (used paths : ℕ) (r : Reading Statistics) (is : r ≡ statsReadingOf paths (walk G D nodes children layer (nodesFrom book 0 used))) where
+  all-entries : r ≡ statsReadingOf paths (walk G D nodes children layer (listedNodes (rows book used)))
+  all-entries = let e : used - 0 ≡ used = omega arith in is ∙ ap (λ (n : ℕ). statsReadingOf paths (walk G D nodes children layer (listedNodes (rows book n)))) e
 
-  pub stats-read : bookStats G D nodes children (rows book used) paths ≡ recorded r
+  pub stats-read : bookStats G D nodes children layer (rows book used) paths ≡ recorded r
   unfolding bookStats
   stats-read = ap recorded (sym all-entries)
 
   pub few-counted : (a : Statistics) → r ≡ answered a → a .stats .«nz_count» ≤ used
-  few-counted a e = omega (arith, counted-le G D nodes children (rows book used) paths a (sym e ∙ all-entries), length-rows book used)
+  few-counted a e = omega (arith, counted-le G D nodes children layer (rows book used) paths a (sym e ∙ all-entries), length-rows book used)

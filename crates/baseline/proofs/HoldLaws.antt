@@ -29,6 +29,7 @@ use Rattle.book.proofs.FormLaws.{formed-counts}
 use Rattle.book.proofs.EndingLaws.{formed-endings}
 use Rattle.book.proofs.RefusalLaws.{book-fits, path-fits}
 use Rattle.book.proofs.Kept.{Sizes, Kept, open-sizes, add-taken, kept-joined}
+use Rattle.priors.specs.Priors.{layerOf}
 use Rattle.baseline.specs.Limits.{maxPaths}
 use Rattle.divergence.specs.Nodes.{Node, listedNodes}
 use Rattle.divergence.specs.RecountNodes.{recountNodes}
@@ -169,19 +170,19 @@ module _ (x : Lent) (accepted : Accepted x) (first i : ℕ) (few : i ≤ maxPath
   few-entries = let s = sizes-fit book (h .book-fits) in omega (arith, h .used-fit)
 
   -- the recount's are those of the book's entries
-  pub stats-are : recountStats x (recountOf (x .sequences) first i (length book)) ≡ bookStats (x .G) (x .D) (x .nodes) (x .children) (rows book used) i
+  pub stats-are : recountStats x (recountOf (x .sequences) first i (length book)) ≡ bookStats (x .G) (x .D) (x .nodes) (x .children) (layerOf (x .floor)) (rows book used) i
   unfolding recountStats bookStats statsReading sequenceLength windowPart
   stats-are =
       let H : List Steps = pathsOf (x .sequences) first i in
       let nodes-are : recountNodes 0 H ≡ listedNodes (rows book used) = sym (ap listedNodes (h .rows-are) ∙ listed-nodes 0 H (h .ranks)) in
       rw (accepted .tables-fit, accepted .priors-fit)
-      (ap₂ (λ (n : ℕ) (ns : List Node). recorded (statsReadingOf n (walk (x .G) (x .D) (x .nodes) (x .children) ns))) (length-paths (x .sequences) first i) nodes-are)
+      (ap₂ (λ (n : ℕ) (ns : List Node). recorded (statsReadingOf n (walk (x .G) (x .D) (x .nodes) (x .children) (layerOf (x .floor)) ns))) (length-paths (x .sequences) first i) nodes-are)
 
 -- what one more path makes of the values, told from the book that holds it
 module _ (x : Lent) (accepted : Accepted x) (first i : ℕ) (few : i < maxPaths) (book : List ℕ) (used : ℕ) (h : Holds (x .sequences) first (suc i) book used) where
   pub path-done : pathNumber (x .sequences) first i (length book) ≡ 0 → (values : List Float)
-      → onePath x first i (length book) values ≡ sampled (x .rate) i (bookStats (x .G) (x .D) (x .nodes) (x .children) (rows book used) (i + 1)) values
+      → onePath x first i (length book) values ≡ sampled (x .rate) i (bookStats (x .G) (x .D) (x .nodes) (x .children) (layerOf (x .floor)) (rows book used) (i + 1)) values
   path-done e values =
       added-path x first i (length book) values e
       ∙ ap (λ (q : Until KLDivergenceStats). sampled (x .rate) i q values) (stats-are x accepted first (suc i) few book used h)
-      ∙ ap (λ (n : ℕ). sampled (x .rate) i (bookStats (x .G) (x .D) (x .nodes) (x .children) (rows book used) n) values) (sym (add-one i))
+      ∙ ap (λ (n : ℕ). sampled (x .rate) i (bookStats (x .G) (x .D) (x .nodes) (x .children) (layerOf (x .floor)) (rows book used) n) values) (sym (add-one i))

@@ -7,7 +7,8 @@ use mathlib.Core.List.{List, [], _∷_}
 use lib.Dec.{eqb}
 use lib.ListN.{length}
 use lib.Ieee.{Float}
-use Rattle.priors.specs.Priors.{lentPriors, priorsRefusal}
+use lib.IntN.{ℤ}
+use Rattle.priors.specs.Priors.{lentPriors, layerOf, priorsRefusal}
 use Rattle.book.specs.Path.{pathOf}
 use Rattle.book.specs.Claims.{Recount, restarted, joined, addRefusal}
 use Rattle.divergence.specs.declared.statistics.KLDivergenceStats.{KLDivergenceStats}
@@ -18,16 +19,16 @@ use Rattle.divergence.proofs.IndexZero.{same-tables, index-zero-unread}
 use Rattle.baseline.specs.Training.{Lent, Input, lentOf, inputOf, knotRoom, sizesRefusal, trainRefusal, Until, andThen, pathIn, recorded, recountStats, unlessStopped, recordsFrom, sequenceRecords, allRecords, course, knotsOf, trainedReading, bookLeft, knotsLeft, valuesLeft, TrainAnswer, trainAsked}
 use Rattle.baseline.specs.Claims.{IndexZeroUnread}
 
-module _ (g g′ d d′ : Float) (G D : List Float) (nodes children sequences : List ℕ) (s n rate : ℕ) where
+module _ (g g′ d d′ : Float) (G D : List Float) (nodes children : List ℕ) (floor : ℤ) (sequences : List ℕ) (s n rate : ℕ) where
   abbrev one : Lent
-  one = lentOf (g ∷ G) (d ∷ D) nodes children sequences rate
+  one = lentOf (g ∷ G) (d ∷ D) nodes children floor sequences rate
 
   abbrev other : Lent
-  other = lentOf (g′ ∷ G) (d′ ∷ D) nodes children sequences rate
+  other = lentOf (g′ ∷ G) (d′ ∷ D) nodes children floor sequences rate
 
   same-stats : (r : Recount) → recountStats one r ≡ recountStats other r
   unfolding recountStats
-  same-stats r = ap recorded (index-zero-unread (recountSeen (r .window) (r .paths)) (lentPriors nodes children) 0 (lentOutput [] []) .2 g g′ d d′ G D)
+  same-stats r = ap recorded (index-zero-unread (recountSeen (r .window) (r .paths)) (lentPriors nodes children floor) 0 (lentOutput [] []) .2 g g′ d d′ G D)
 
   same-records : (first : ℕ) (r : Recount) (i m : ℕ) → recordsFrom one first r i m ≡ recordsFrom other first r i m
   unfolding recordsFrom
@@ -39,10 +40,10 @@ module _ (g g′ d d′ : Float) (G D : List Float) (nodes children sequences : 
       (same-records first after (suc i) m)
 
   abbrev oneInput : Input
-  oneInput = inputOf (g ∷ G) (d ∷ D) nodes children sequences s n rate
+  oneInput = inputOf (g ∷ G) (d ∷ D) nodes children floor sequences s n rate
 
   abbrev otherInput : Input
-  otherInput = inputOf (g′ ∷ G) (d′ ∷ D) nodes children sequences s n rate
+  otherInput = inputOf (g′ ∷ G) (d′ ∷ D) nodes children floor sequences s n rate
 
   same-all : (bookSize q m : ℕ) → allRecords oneInput bookSize q m ≡ allRecords otherInput bookSize q m
   unfolding allRecords sequenceRecords
@@ -53,7 +54,7 @@ module _ (g g′ d d′ : Float) (G D : List Float) (nodes children sequences : 
     same-refusal : trainRefusal oneInput book knots values ≡ trainRefusal otherInput book knots values
     unfolding trainRefusal
     same-refusal =
-        ap (λ (m : ℕ). orElse m (orElse (priorsRefusal nodes children) (sizesRefusal sequences s n rate book (knotRoom knots values)))) (same-tables g g′ d d′ G D)
+        ap (λ (m : ℕ). orElse m (orElse (priorsRefusal nodes children (layerOf floor)) (sizesRefusal sequences s n rate book (knotRoom knots values)))) (same-tables g g′ d d′ G D)
 
     same-training : trainAsked oneInput book knots values ≡ trainAsked otherInput book knots values
     unfolding trainAsked
@@ -69,4 +70,4 @@ module _ (g g′ d d′ : Float) (G D : List Float) (nodes children sequences : 
         }
 
 pub index-zero-unread-in-training : IndexZeroUnread
-index-zero-unread-in-training nodes children sequences s n rate book knots values g g′ d d′ G D = same-training g g′ d d′ G D nodes children sequences s n rate book knots values
+index-zero-unread-in-training nodes children floor sequences s n rate book knots values g g′ d d′ G D = same-training g g′ d d′ G D nodes children floor sequences s n rate book knots values

@@ -11,7 +11,7 @@ use borrow.Author.Tests.{leb-true, eqb-true, lt-leb, le-leb}
 use Rattle.priors.specs.declared.refusals.Refusal.{Refusal}
 use Rattle.priors.specs.Refusals.{numberOf}
 use Rattle.priors.specs.Tables.{tablesRefusal}
-use Rattle.priors.specs.Priors.{priorsRefusal}
+use Rattle.priors.specs.Priors.{layerOf, priorsRefusal}
 use Rattle.priors.proofs.Tests.{both}
 use Rattle.book.proofs.Kept.{rule-passed}
 use Rattle.book.specs.Form.{bookFits}
@@ -24,7 +24,7 @@ use Rattle.baseline.specs.Training.{Input, knotCount, inputFits, knotRoo
 
 module _ (x : Input) (book knots : List ℕ) (values : List Float) where
   priors-number : ℕ
-  priors-number = priorsRefusal (x .lent .nodes) (x .lent .children)
+  priors-number = priorsRefusal (x .lent .nodes) (x .lent .children) (layerOf (x .lent .floor))
 
   sizes-number : ℕ
   sizes-number = sizesRefusal (x .lent .sequences) (x .s) (x .n) (x .lent .rate) book (knotRoom knots values)
@@ -34,11 +34,11 @@ module _ (x : Input) (book knots : List ℕ) (values : List Float) where
   tables-first r e = stops (tablesRefusal (x .lent .G) (x .lent .D)) (orElse priors-number sizes-number) r (sym e)
 
   module _ (tables-fit : tablesRefusal (x .lent .G) (x .lent .D) ≡ 0) where
-    pub priors-second : (r : Refusal) → numberOf r ≡ priorsRefusal (x .lent .nodes) (x .lent .children) → numberOf r ≡ trainRefusal x book knots values
+    pub priors-second : (r : Refusal) → numberOf r ≡ priorsRefusal (x .lent .nodes) (x .lent .children) (layerOf (x .lent .floor)) → numberOf r ≡ trainRefusal x book knots values
     unfolding trainRefusal sizes-number
-    priors-second r e = rw tables-fit (stops (priorsRefusal (x .lent .nodes) (x .lent .children)) sizes-number r (sym e))
+    priors-second r e = rw tables-fit (stops (priorsRefusal (x .lent .nodes) (x .lent .children) (layerOf (x .lent .floor))) sizes-number r (sym e))
 
-    pub sizes-third : priorsRefusal (x .lent .nodes) (x .lent .children) ≡ 0
+    pub sizes-third : priorsRefusal (x .lent .nodes) (x .lent .children) (layerOf (x .lent .floor)) ≡ 0
         → sizesRefusal (x .lent .sequences) (x .s) (x .n) (x .lent .rate) book (knotRoom knots values) ≡ trainRefusal x book knots values
     unfolding trainRefusal
     sizes-third priors-fit = rw (tables-fit, priors-fit)

@@ -11,7 +11,7 @@ use Rattle.priors.specs.declared.addresses.Address.{Address}
 use Rattle.priors.specs.declared.refusals.Refusal.{Refusal}
 use Rattle.priors.specs.Refusals.{numberOf, namedNode}
 use Rattle.priors.specs.Tables.{tablesRefusal}
-use Rattle.priors.specs.Priors.{priorsRefusal}
+use Rattle.priors.specs.Priors.{layerOf, priorsRefusal}
 use Rattle.book.specs.Form.{bookFits}
 use Rattle.book.specs.Calls.{zeros}
 use Rattle.divergence.specs.declared.statistics.KLDivergenceStats.{KLDivergenceStats}
@@ -42,7 +42,7 @@ pub passed : (x : Input) (book knots : List ℕ) (values : List Float) → train
 unfolding trainRefusal
 passed x book knots values h =
     let numbers =
-    three-passed (tablesRefusal (x .lent .G) (x .lent .D)) (priorsRefusal (x .lent .nodes) (x .lent .children))
+    three-passed (tablesRefusal (x .lent .G) (x .lent .D)) (priorsRefusal (x .lent .nodes) (x .lent .children) (layerOf (x .lent .floor)))
     (sizesRefusal (x .lent .sequences) (x .s) (x .n) (x .lent .rate) book (knotRoom knots values)) h in
     let sizes = sizes-passed (x .lent .sequences) (x .s) (x .n) (x .lent .rate) book (knotRoom knots values) (numbers .2) in
     let fits = sizes .input-fits in

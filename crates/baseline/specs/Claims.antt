@@ -9,6 +9,7 @@ use mathlib.Core.Option.{none}
 use lib.Dec.{eqb}
 use lib.ListN.{length}
 use lib.Ieee.{Float}
+use lib.IntN.{ℤ}
 use Rattle.priors.specs.Tables.{lentTables}
 use Rattle.priors.specs.Priors.{lentPriors}
 use Rattle.book.specs.Figures.{All}
@@ -25,7 +26,7 @@ callsFrom x first i zero = []
 callsFrom x first i (suc m) =
     let rest = callsFrom x first (suc i) m in
     change (add (pathIn (x .sequences) (first + i)))
-    ∷ cond (eqb (i % x .rate) 0) (read (klDivStats (lentTables (x .G) (x .D)) (lentPriors (x .nodes) (x .children))) ∷ rest) rest
+    ∷ cond (eqb (i % x .rate) 0) (read (klDivStats (lentTables (x .G) (x .D)) (lentPriors (x .nodes) (x .children) (x .floor))) ∷ rest) rest
 
 -- the sequence numbered q runs through a fresh window-0 tracker, which has no queue
 unfoldable pub sequenceCalls : Input → List ℕ → ℕ → List Call
@@ -62,5 +63,5 @@ RecordForEachKnot =
 -- what stands at index 0 of either table plays no part in a training, as in no reading
 abbrev pub IndexZeroUnread : Type 0
 IndexZeroUnread =
-    (nodes children sequences : List ℕ) (s n rate : ℕ) (book knots : List ℕ) (values : List Float)
-    → ZeroUnread (λ G D. trainAsked (inputOf G D nodes children sequences s n rate) book knots values)
+    (nodes children : List ℕ) (floor : ℤ) (sequences : List ℕ) (s n rate : ℕ) (book knots : List ℕ) (values : List Float)
+    → ZeroUnread (λ G D. trainAsked (inputOf G D nodes children floor sequences s n rate) book knots values)

@@ -14,7 +14,7 @@ use Rattle.priors.specs.declared.refusals.Checked.the-variants.{Passed, Refused
 use Rattle.priors.specs.Rows.{Row}
 use Rattle.priors.specs.Refusals.{numberOf, namedNode}
 use Rattle.priors.specs.Tables.{tablesRefusal}
-use Rattle.priors.specs.Priors.{priorsRefusal}
+use Rattle.priors.specs.Priors.{layerOf, priorsRefusal}
 use Rattle.book.specs.Limits.{entrySize}
 use Rattle.book.specs.Entries.{rows}
 use Rattle.book.specs.Path.{Steps, pathOf}
@@ -36,7 +36,7 @@ use Rattle.baseline.specs.declared.training.Entries.the-variants.{Used, 
 -- no number below 9 turns them back
 pub record Accepted (x : Lent) : Type 0 where
   pub tables-fit : tablesRefusal (x .G) (x .D) ≡ 0
-  pub priors-fit : priorsRefusal (x .nodes) (x .children) ≡ 0
+  pub priors-fit : priorsRefusal (x .nodes) (x .children) (layerOf (x .floor)) ≡ 0
 
 -- the node that a check's refusal names
 abbrev pub checkedNode : Checked → Option Address
@@ -83,8 +83,8 @@ abbrev pub sampled : ℕ → ℕ → Until KLDivergenceStats → List Float → 
 sampled rate i q values = cond (eqb (i % rate) 0) (atKnot (i / rate) q values) (reached values)
 
 -- the statistics that a book's entries give against accepted tables and priors, after so many paths
-unfoldable pub bookStats : List Float → List Float → List ℕ → List ℕ → List Row → ℕ → Until KLDivergenceStats
-bookStats G D nodes children rs paths = recorded (statsReadingOf paths (walk G D nodes children (listedNodes rs)))
+unfoldable pub bookStats : List Float → List Float → List ℕ → List ℕ → ℕ → List Row → ℕ → Until KLDivergenceStats
+bookStats G D nodes children layer rs paths = recorded (statsReadingOf paths (walk G D nodes children layer (listedNodes rs)))
 
 -- what the path numbered i makes of the values
 unfoldable pub onePath : Lent → ℕ → ℕ → ℕ → List Float → Until (List Float)

@@ -7,13 +7,14 @@ use mathlib.Core.Option.{Option, none}
 use lib.Dec.{eqb, leb}
 use lib.ListN.{length, take, drop, replicate}
 use lib.Ieee.{Float}
+use lib.IntN.{ℤ}
 use Rattle.priors.specs.Word.{word}
 use Rattle.priors.specs.declared.addresses.Address.{Address}
 use Rattle.priors.specs.Below.{listOf}
 use Rattle.priors.specs.Rules.{rule, firstBroken}
 use Rattle.priors.specs.Refusals.{numberOf, namedNode}
 use Rattle.priors.specs.Tables.{lentTables, tablesRefusal}
-use Rattle.priors.specs.Priors.{lentPriors, priorsRefusal}
+use Rattle.priors.specs.Priors.{lentPriors, layerOf, priorsRefusal}
 use Rattle.book.specs.Limits.{maxSteps, stepSize, placeSize}
 use Rattle.book.specs.Path.{pathOf}
 use Rattle.book.specs.Form.{bookFits}
@@ -36,6 +37,7 @@ pub record Lent : Type 0 where
   pub D : List Float
   pub nodes : List ℕ
   pub children : List ℕ
+  pub floor : ℤ
   pub sequences : List ℕ
   pub rate : ℕ
 
@@ -46,11 +48,11 @@ pub record Input : Type 0 where
   pub n : ℕ
 
 -- these from a call's arguments
-abbrev pub lentOf : List Float → List Float → List ℕ → List ℕ → List ℕ → ℕ → Lent
-lentOf G D nodes children sequences rate = record { G = G; D = D; nodes = nodes; children = children; sequences = sequences; rate = rate }
+abbrev pub lentOf : List Float → List Float → List ℕ → List ℕ → ℤ → List ℕ → ℕ → Lent
+lentOf G D nodes children floor sequences rate = record { G = G; D = D; nodes = nodes; children = children; floor = floor; sequences = sequences; rate = rate }
 
-abbrev pub inputOf : List Float → List Float → List ℕ → List ℕ → List ℕ → ℕ → ℕ → ℕ → Input
-inputOf G D nodes children sequences s n rate = record { lent = lentOf G D nodes children sequences rate; s = s; n = n }
+abbrev pub inputOf : List Float → List Float → List ℕ → List ℕ → ℤ → List ℕ → ℕ → ℕ → ℕ → Input
+inputOf G D nodes children floor sequences s n rate = record { lent = lentOf G D nodes children floor sequences rate; s = s; n = n }
 
 -- ---- the numbers before the work
 
@@ -82,7 +84,7 @@ trainRefusal x book knots values =
     orElse
     (tablesRefusal (x .lent .G) (x .lent .D))
     (orElse
-    (priorsRefusal (x .lent .nodes) (x .lent .children))
+    (priorsRefusal (x .lent .nodes) (x .lent .children) (layerOf (x .lent .floor)))
     (sizesRefusal (x .lent .sequences) (x .s) (x .n) (x .lent .rate) book (knotRoom knots values)))
 
 -- ---- the work
@@ -113,7 +115,7 @@ recorded (answered a) = reached (a .stats)
 -- `kl_div_stats` of the recount
 unfoldable pub recountStats : Lent → Recount → Until KLDivergenceStats
 recountStats x r =
-    recorded (statsAsked (recountSeen (r .window) (r .paths)) (lentTables (x .G) (x .D)) (lentPriors (x .nodes) (x .children)))
+    recorded (statsAsked (recountSeen (r .window) (r .paths)) (lentTables (x .G) (x .D)) (lentPriors (x .nodes) (x .children) (x .floor)))
 
 -- a path that is refused stops the training
 abbrev pub unlessStopped : {X : Type 0} → ℕ → Until X → Until X

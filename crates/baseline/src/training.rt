@@ -9,6 +9,7 @@ ghost use lib.ListN.{length, drop, replicate};
 ghost use Rattle.priors.specs.Refusals.{checkedNumber};
 ghost use Rattle.priors.specs.Tables.{tablesRefusal};
 ghost use Rattle.priors.specs.Priors.{priorsRefusal};
+ghost use Rattle.priors.specs.Layer.{floorOf};
 ghost use Rattle.book.specs.Limits.{maxEntries, placeSize};
 ghost use Rattle.book.specs.Entries.{rows};
 ghost use Rattle.book.specs.Form.{bookFits};
@@ -32,6 +33,7 @@ use book::queue::oldest;
 use book::room::has_room;
 use divergence::answers::KlDivStats;
 use divergence::statistics::stats_of;
+use priors::addresses::layer_of;
 use priors::checks::check_priors;
 use priors::refusals::Checked;
 use priors::refusals::Reason;
@@ -118,6 +120,7 @@ fn check_input(
     d: &[f64],
     nodes: &[u8],
     children: &[u8],
+    layer: u32,
     sequences: &[u8],
     s: u32,
     n: u32,
@@ -126,12 +129,12 @@ fn check_input(
     knots: &[u32],
     values: &[f64],
 ) -> Checked
-    ensures { λ r. ⌜ checkedNumber r ≡ trainRefusal (inputOf (now (g .entry)) (now (d .entry)) (now (nodes .entry)) (now (children .entry)) (now (sequences .entry)) s n rate) (now (book .entry)) (now (knots .entry)) (now (values .entry)) ⌝ }
+    ensures { λ r. ⌜ checkedNumber r ≡ trainRefusal (inputOf (now (g .entry)) (now (d .entry)) (now (nodes .entry)) (now (children .entry)) (floorOf layer) (now (sequences .entry)) s n rate) (now (book .entry)) (now (knots .entry)) (now (values .entry)) ⌝ }
     ensures { λ r. ⌜ checkedNode r ≡ none ⌝ }
 {
     match check_tables(g, d) {
         Checked::Refused(r) => Checked::Refused(r),
-        Checked::Passed => match check_priors(nodes, children) {
+        Checked::Passed => match check_priors(nodes, children, layer) {
             Checked::Refused(r) => Checked::Refused(r),
             Checked::Passed => check_sizes(sequences, s, n, rate, book, knots, values),
         },
@@ -174,6 +177,7 @@ fn sample(
     d: &[f64],
     nodes: &[u8],
     children: &[u8],
+    layer: u32,
     rate: usize,
     book: &[u8],
     used: usize,
@@ -181,18 +185,18 @@ fn sample(
     values: &mut [f64],
 ) -> Checked
     requires { ⌜ tablesRefusal (now g) (now d) ≡ 0 ⌝ }
-    requires { ⌜ priorsRefusal (now nodes) (now children) ≡ 0 ⌝ }
+    requires { ⌜ priorsRefusal (now nodes) (now children) layer ≡ 0 ⌝ }
     requires { ⌜ used ≤ maxEntries ⌝ }
     requires { ⌜ 24 * used ≤ length (now book) ⌝ }
     requires { ⌜ 1 ≤ rate ⌝ }
     requires { ⌜ i < maxPaths ⌝ }
     requires { ⌜ (i % rate ≡ 0 → knotValues * (i / rate) + 9 < length (now values)) ⌝ }
-    ensures { λ r. ⌜ ended r (now (values .exit)) ≡ sampled rate i (bookStats (now (g .entry)) (now (d .entry)) (now (nodes .entry)) (now (children .entry)) (rows (now (book .entry)) used) (i + 1)) (now (values .entry)) ⌝ }
+    ensures { λ r. ⌜ ended r (now (values .exit)) ≡ sampled rate i (bookStats (now (g .entry)) (now (d .entry)) (now (nodes .entry)) (now (children .entry)) layer (rows (now (book .entry)) used) (i + 1)) (now (values .entry)) ⌝ }
 {
     if i % rate != 0 {
         return Checked::Passed;
     }
-    match stats_of(book, used, nodes, children, g, d, (i + 1) as u32) {
+    match stats_of(book, used, nodes, children, layer, g, d, (i + 1) as u32) {
         KlDivStats::Stats(stats, _) => {
             add_at(values, i / rate, stats);
             Checked::Passed
@@ -207,6 +211,7 @@ fn one_path(
     d: &[f64],
     nodes: &[u8],
     children: &[u8],
+    layer: u32,
     sequences: &[u8],
     rate: usize,
     first: usize,
@@ -215,17 +220,28 @@ fn one_path(
     used: usize,
     values: &mut [f64],
 ) -> Entries
-    requires { ⌜ Accepted (lentOf (now g) (now d) (now nodes) (now children) (now sequences) rate) ⌝ }
+    requires { ⌜ Accepted (lentOf (now g) (now d) (now nodes) (now children) (floorOf layer) (now sequences) rate) ⌝ }
     requires { ⌜ placeSize * (first + i) + placeSize ≤ length (now sequences) ⌝ }
     requires { ⌜ 1 ≤ rate ⌝ }
     requires { ⌜ i < maxPaths ⌝ }
     requires { ⌜ (i % rate ≡ 0 → knotValues * (i / rate) + 9 < length (now values)) ⌝ }
     requires { ⌜ Holds (now sequences) first i (now book) used ⌝ }
-    ensures { λ r. ⌜ Went (lentOf (now (g .entry)) (now (d .entry)) (now (nodes .entry)) (now (children .entry)) (now (sequences .entry)) rate) first i (now (book .exit)) (now (values .entry)) (now (values .exit)) r ⌝ }
+    ensures { λ r. ⌜ Went (lentOf (now (g .entry)) (now (d .entry)) (now (nodes .entry)) (now (children .entry)) (floorOf layer) (now (sequences .entry)) rate) first i (now (book .exit)) (now (values .entry)) (now (values .exit)) r ⌝ }
 {
     match add_next(sequences, first, i, book, used) {
         Entries::Stopped(r) => Entries::Stopped(r),
-        Entries::Used(more) => match sample(g, d, nodes, children, rate, book, more, i, values) {
+        Entries::Used(more) => match sample(
+            g,
+            d,
+            nodes,
+            children,
+            layer,
+            rate,
+            book,
+            more,
+            i,
+            values,
+        ) {
             Checked::Refused(r) => Entries::Stopped(r),
             Checked::Passed => Entries::Used(more),
         },
@@ -238,6 +254,7 @@ fn run_sequence(
     d: &[f64],
     nodes: &[u8],
     children: &[u8],
+    layer: u32,
     sequences: &[u8],
     n: usize,
     rate: usize,
@@ -245,13 +262,13 @@ fn run_sequence(
     book: &mut [u8],
     values: &mut [f64],
 ) -> Checked
-    requires { ⌜ Accepted (lentOf (now g) (now d) (now nodes) (now children) (now sequences) rate) ⌝ }
+    requires { ⌜ Accepted (lentOf (now g) (now d) (now nodes) (now children) (floorOf layer) (now sequences) rate) ⌝ }
     requires { ⌜ placeSize * (first + n) ≤ length (now sequences) ⌝ }
     requires { ⌜ 1 ≤ rate ⌝ }
     requires { ⌜ n ≤ maxPaths ⌝ }
     requires { ⌜ knotValues * knotCount n rate ≤ length (now values) ⌝ }
     requires { ⌜ bookFits (now book) ≡ true ⌝ }
-    ensures { λ r. ⌜ ended r (now (values .exit)) ≡ entered 0 (recordsFrom (lentOf (now (g .entry)) (now (d .entry)) (now (nodes .entry)) (now (children .entry)) (now (sequences .entry)) rate) first (restarted 0 (length (now (book .entry))) 0) 0 n) (now (values .entry)) ⌝ }
+    ensures { λ r. ⌜ ended r (now (values .exit)) ≡ entered 0 (recordsFrom (lentOf (now (g .entry)) (now (d .entry)) (now (nodes .entry)) (now (children .entry)) (floorOf layer) (now (sequences .entry)) rate) first (restarted 0 (length (now (book .entry))) 0) 0 n) (now (values .entry)) ⌝ }
 {
     let mut used = 0;
     let mut i = 0;
@@ -261,6 +278,7 @@ fn run_sequence(
             d,
             nodes,
             children,
+            layer,
             sequences,
             rate,
             first,
@@ -285,6 +303,7 @@ fn run_all(
     d: &[f64],
     nodes: &[u8],
     children: &[u8],
+    layer: u32,
     sequences: &[u8],
     s: usize,
     n: usize,
@@ -292,14 +311,14 @@ fn run_all(
     book: &mut [u8],
     values: &mut [f64],
 ) -> Checked
-    requires { ⌜ Accepted (lentOf (now g) (now d) (now nodes) (now children) (now sequences) rate) ⌝ }
+    requires { ⌜ Accepted (lentOf (now g) (now d) (now nodes) (now children) (floorOf layer) (now sequences) rate) ⌝ }
     requires { ⌜ length (now sequences) ≡ placeSize * (s * n) ⌝ }
     requires { ⌜ s ≤ maxSequences ⌝ }
     requires { ⌜ 1 ≤ rate ⌝ }
     requires { ⌜ n ≤ maxPaths ⌝ }
     requires { ⌜ knotValues * knotCount n rate ≤ length (now values) ⌝ }
     requires { ⌜ bookFits (now book) ≡ true ⌝ }
-    ensures { λ r. ⌜ ended r (now (values .exit)) ≡ allEntered (allRecords (inputOf (now (g .entry)) (now (d .entry)) (now (nodes .entry)) (now (children .entry)) (now (sequences .entry)) s n rate) (length (now (book .entry))) 0 s) (now (values .entry)) ⌝ }
+    ensures { λ r. ⌜ ended r (now (values .exit)) ≡ allEntered (allRecords (inputOf (now (g .entry)) (now (d .entry)) (now (nodes .entry)) (now (children .entry)) (floorOf layer) (now (sequences .entry)) s n rate) (length (now (book .entry))) 0 s) (now (values .entry)) ⌝ }
 {
     let mut q = 0;
     while q < s {
@@ -308,6 +327,7 @@ fn run_all(
             d,
             nodes,
             children,
+            layer,
             sequences,
             n,
             rate,
@@ -373,6 +393,7 @@ fn work(
     d: &[f64],
     nodes: &[u8],
     children: &[u8],
+    layer: u32,
     sequences: &[u8],
     s: u32,
     n: u32,
@@ -381,8 +402,8 @@ fn work(
     knots: &mut [u32],
     values: &mut [f64],
 ) -> Trained
-    requires { ⌜ trainRefusal (inputOf (now g) (now d) (now nodes) (now children) (now sequences) s n rate) (now book) (now knots) (now values) ≡ 0 ⌝ }
-    ensures { λ r. ⌜ trainTold r (now (book .exit)) (now (knots .exit)) (now (values .exit)) ≡ trainAsked (inputOf (now (g .entry)) (now (d .entry)) (now (nodes .entry)) (now (children .entry)) (now (sequences .entry)) s n rate) (now (book .entry)) (now (knots .entry)) (now (values .entry)) ⌝ }
+    requires { ⌜ trainRefusal (inputOf (now g) (now d) (now nodes) (now children) (floorOf layer) (now sequences) s n rate) (now book) (now knots) (now values) ≡ 0 ⌝ }
+    ensures { λ r. ⌜ trainTold r (now (book .exit)) (now (knots .exit)) (now (values .exit)) ≡ trainAsked (inputOf (now (g .entry)) (now (d .entry)) (now (nodes .entry)) (now (children .entry)) (floorOf layer) (now (sequences .entry)) s n rate) (now (book .entry)) (now (knots .entry)) (now (values .entry)) ⌝ }
 {
     let count = knot_count(n, rate);
     start(values, count);
@@ -391,6 +412,7 @@ fn work(
         d,
         nodes,
         children,
+        layer,
         sequences,
         s as usize,
         n as usize,
@@ -419,6 +441,7 @@ pub fn train(
     d: &[f64],
     nodes: &[u8],
     children: &[u8],
+    floor: i32,
     sequences: &[u8],
     s: u32,
     n: u32,
@@ -427,13 +450,15 @@ pub fn train(
     knots: &mut [u32],
     values: &mut [f64],
 ) -> Trained
-    ensures { λ r. ⌜ trainTold r (now (book .exit)) (now (knots .exit)) (now (values .exit)) ≡ trainAsked (inputOf (now (g .entry)) (now (d .entry)) (now (nodes .entry)) (now (children .entry)) (now (sequences .entry)) s n rate) (now (book .entry)) (now (knots .entry)) (now (values .entry)) ⌝ }
+    ensures { λ r. ⌜ trainTold r (now (book .exit)) (now (knots .exit)) (now (values .exit)) ≡ trainAsked (inputOf (now (g .entry)) (now (d .entry)) (now (nodes .entry)) (now (children .entry)) floor (now (sequences .entry)) s n rate) (now (book .entry)) (now (knots .entry)) (now (values .entry)) ⌝ }
 {
+    let layer = layer_of(floor);
     match check_input(
         g,
         d,
         nodes,
         children,
+        layer,
         sequences,
         s,
         n,
@@ -448,6 +473,7 @@ pub fn train(
             d,
             nodes,
             children,
+            layer,
             sequences,
             s,
             n,

@@ -29,17 +29,17 @@ or-keeps : (test : ℕ → Bool) (a b : ℕ) → test a ≡ true → test b ≡ 
 or-keeps test zero b h l = l
 or-keeps test (suc a) b h l = h
 
-pub priors-unnamed : (nodes children : List ℕ) → namesNone (priorsRefusal nodes children) ≡ true
-priors-unnamed nodes children = priors-keep namesNone nodes children refl refl
+pub priors-unnamed : (nodes children : List ℕ) (layer : ℕ) → namesNone (priorsRefusal nodes children layer) ≡ true
+priors-unnamed nodes children layer = priors-keep namesNone nodes children layer refl refl
 
 form-unnamed : (b : Bool) → namesNone (cond b 0 9) ≡ true
 form-unnamed true = refl
 form-unnamed false = refl
 
-pub checks-unnamed : (t : Tracker) (book queue nodes children : List ℕ) (G D : List Float) → namesNone (checksRefusal t book queue nodes children G D) ≡ true
-checks-unnamed t book queue nodes children G D =
-    or-keeps namesNone (tablesRefusal G D) (orElse (priorsRefusal nodes children) (formRefusal t book queue)) (tables-keep namesNone G D refl refl)
-    (or-keeps namesNone (priorsRefusal nodes children) (formRefusal t book queue) (priors-unnamed nodes children) (form-unnamed (inForm t book queue)))
+pub checks-unnamed : (t : Tracker) (book queue nodes children : List ℕ) (layer : ℕ) (G D : List Float) → namesNone (checksRefusal t book queue nodes children layer G D) ≡ true
+checks-unnamed t book queue nodes children layer G D =
+    or-keeps namesNone (tablesRefusal G D) (orElse (priorsRefusal nodes children layer) (formRefusal t book queue)) (tables-keep namesNone G D refl refl)
+    (or-keeps namesNone (priorsRefusal nodes children layer) (formRefusal t book queue) (priors-unnamed nodes children layer) (form-unnamed (inForm t book queue)))
 
 -- ---- a reading after the checks
 
@@ -87,34 +87,34 @@ unfolding bookFits
 form-few t book queue h =
     omega (arith, form-used t book queue h, leb-true (capacity book) maxEntries (second-true (leb 1 (capacity book)) (leb (capacity book) maxEntries) (second-true (eqb (length book % 24) 0) (leb 1 (capacity book) && leb (capacity book) maxEntries) (form-book t book queue h))))
 
-module _ (t : Tracker) (book queue nodes children : List ℕ) (G D : List Float) where
+module _ (t : Tracker) (book queue nodes children : List ℕ) (layer : ℕ) (G D : List Float) where
   abbrev afterChecks : {X : Type 0} → Reading X → Reading X
-  afterChecks r = unless (tablesRefusal G D) (unless (priorsRefusal nodes children) (unless (formRefusal t book queue) r))
+  afterChecks r = unless (tablesRefusal G D) (unless (priorsRefusal nodes children layer) (unless (formRefusal t book queue) r))
 
-  pub checks-are : {X : Type 0} (r : Reading X) → afterChecks r ≡ unless (checksRefusal t book queue nodes children G D) r
+  pub checks-are : {X : Type 0} (r : Reading X) → afterChecks r ≡ unless (checksRefusal t book queue nodes children layer G D) r
   checks-are r =
-      ap (unless (tablesRefusal G D)) (sym (unless-or (priorsRefusal nodes children) (formRefusal t book queue) r))
-      ∙ sym (unless-or (tablesRefusal G D) (orElse (priorsRefusal nodes children) (formRefusal t book queue)) r)
+      ap (unless (tablesRefusal G D)) (sym (unless-or (priorsRefusal nodes children layer) (formRefusal t book queue) r))
+      ∙ sym (unless-or (tablesRefusal G D) (orElse (priorsRefusal nodes children layer) (formRefusal t book queue)) r)
 
   -- a refusal with the number of the checks is the reading's answer
-  pub refused-by : {X : Type 0} (q : Refusal) (r : Reading X) → numberOf q ≡ checksRefusal t book queue nodes children G D → refused (numberOf q) (namedNode q) ≡ afterChecks r
-  refused-by q r h = unless-refused q (checksRefusal t book queue nodes children G D) r h (checks-unnamed t book queue nodes children G D) ∙ sym (checks-are r)
+  pub refused-by : {X : Type 0} (q : Refusal) (r : Reading X) → numberOf q ≡ checksRefusal t book queue nodes children layer G D → refused (numberOf q) (namedNode q) ≡ afterChecks r
+  refused-by q r h = unless-refused q (checksRefusal t book queue nodes children layer G D) r h (checks-unnamed t book queue nodes children layer G D) ∙ sym (checks-are r)
 
-  module _ (h : checksRefusal t book queue nodes children G D ≡ 0) where
+  module _ (h : checksRefusal t book queue nodes children layer G D ≡ 0) where
     pub passed-by : {X : Type 0} (r : Reading X) → r ≡ afterChecks r
     passed-by r = sym (checks-are r ∙ ap (λ (n : ℕ). unless n r) h)
 
     pub tables-pass : tablesRefusal G D ≡ 0
-    tables-pass = or-first (tablesRefusal G D) (orElse (priorsRefusal nodes children) (formRefusal t book queue)) h
+    tables-pass = or-first (tablesRefusal G D) (orElse (priorsRefusal nodes children layer) (formRefusal t book queue)) h
 
-    rest-pass : orElse (priorsRefusal nodes children) (formRefusal t book queue) ≡ 0
-    rest-pass = or-second (tablesRefusal G D) (orElse (priorsRefusal nodes children) (formRefusal t book queue)) h
+    rest-pass : orElse (priorsRefusal nodes children layer) (formRefusal t book queue) ≡ 0
+    rest-pass = or-second (tablesRefusal G D) (orElse (priorsRefusal nodes children layer) (formRefusal t book queue)) h
 
-    pub priors-pass : priorsRefusal nodes children ≡ 0
-    priors-pass = or-first (priorsRefusal nodes children) (formRefusal t book queue) rest-pass
+    pub priors-pass : priorsRefusal nodes children layer ≡ 0
+    priors-pass = or-first (priorsRefusal nodes children layer) (formRefusal t book queue) rest-pass
 
     form-pass : inForm t book queue ≡ true
-    form-pass = form-true (inForm t book queue) (or-second (priorsRefusal nodes children) (formRefusal t book queue) rest-pass)
+    form-pass = form-true (inForm t book queue) (or-second (priorsRefusal nodes children layer) (formRefusal t book queue) rest-pass)
 
     pub used-fits : 24 * t .used ≤ length book
     used-fits = form-used t book queue form-pass

@@ -48,23 +48,23 @@ has-record f o n h = ap (λ (p : Option Record). hasPrior (Option·map f p)) h
 has-none : (f : Record → Counts) (o : Option Record) → o ≡ none → hasPrior (Option·map f o) ≡ 0
 has-none f o h = ap (λ (p : Option Record). hasPrior (Option·map f p)) h
 
-module _ (nodes : List ℕ) (rank : ℕ) where
-  pub one-prior : (n : Record) → findRecord rank (records nodes) ≡ some n → (children : List ℕ) → 1 ≡ hasPrior (priorOf nodes children rank)
+module _ (nodes : List ℕ) (layer rank : ℕ) where
+  pub one-prior : (n : Record) → findRecord layer rank (records nodes) ≡ some n → (children : List ℕ) → 1 ≡ hasPrior (priorOf nodes children layer rank)
   unfolding priorOf
-  one-prior n h children = sym (has-record (priorOfNode children) (findRecord rank (records nodes)) n h)
+  one-prior n h children = sym (has-record (priorOfNode children) (findRecord layer rank (records nodes)) n h)
 
-  pub no-prior : findRecord rank (records nodes) ≡ none → (children : List ℕ) → 0 ≡ hasPrior (priorOf nodes children rank)
+  pub no-prior : findRecord layer rank (records nodes) ≡ none → (children : List ℕ) → 0 ≡ hasPrior (priorOf nodes children layer rank)
   unfolding priorOf
-  no-prior h children = sym (has-none (priorOfNode children) (findRecord rank (records nodes)) h)
+  no-prior h children = sym (has-none (priorOfNode children) (findRecord layer rank (records nodes)) h)
 
-module _ (nodes children book : List ℕ) where
-  pub priors-next : (i to used : ℕ) → Next book i to used → withPrior nodes children (nodesFrom book i used) ≡ hasPrior (priorOf nodes children (nodeAt book i)) + withPrior nodes children (nodesFrom book to used)
+module _ (nodes children : List ℕ) (layer : ℕ) (book : List ℕ) where
+  pub priors-next : (i to used : ℕ) → Next book i to used → withPrior nodes children layer (nodesFrom book i used) ≡ hasPrior (priorOf nodes children layer (nodeAt book i)) + withPrior nodes children layer (nodesFrom book to used)
   unfolding withPrior
-  priors-next i to used n = ap (withPrior nodes children) (n .nodes-are)
+  priors-next i to used n = ap (withPrior nodes children layer) (n .nodes-are)
 
-  pub priors-end : (i used : ℕ) → used ≤ i → withPrior nodes children (nodesFrom book i used) ≡ 0
+  pub priors-end : (i used : ℕ) → used ≤ i → withPrior nodes children layer (nodesFrom book i used) ≡ 0
   unfolding withPrior listedNodes spread
-  priors-end i used h = ap (λ (rs : List Row). withPrior nodes children (listedNodes rs)) (part-none book i used h)
+  priors-end i used h = ap (λ (rs : List Row). withPrior nodes children layer (listedNodes rs)) (part-none book i used h)
 
 -- ---- the first refusal
 
@@ -81,19 +81,19 @@ stop-fit G D children e node NoRecord (walked ps k) = refl
 stop-fit G D children e node LacksChild rest = refl
 stop-fit G D children e node PastEnd rest = refl
 
-module _ (G D : List Float) (nodes children book : List ℕ) where
+module _ (G D : List Float) (nodes children : List ℕ) (layer : ℕ) (book : List ℕ) where
   -- the tests of the node whose ending stands at i
   abbrev pub fitAt : ℕ → ℕ → NodeFit
-  fitAt i to = fitOf children (length G) (findRecord (nodeAt book i) (records nodes)) (evidenceAt book i to)
+  fitAt i to = fitOf children (length G) (findRecord layer (nodeAt book i) (records nodes)) (evidenceAt book i to)
 
-  pub stop-next : (i to used : ℕ) → Next book i to used → stopOf (walkFrom G D nodes children book i used) ≡ thenStop (fitStop (nodeAt book i) (fitAt i to)) (stopOf (walkFrom G D nodes children book to used))
+  pub stop-next : (i to used : ℕ) → Next book i to used → stopOf (walkFrom G D nodes children layer book i used) ≡ thenStop (fitStop (nodeAt book i) (fitAt i to)) (stopOf (walkFrom G D nodes children layer book to used))
   unfolding priorOf
   stop-next i to used n =
-      ap stopOf (walk-next G D nodes children book i to used n ∙ ap (λ (x : NodeDivergence). visited (nodeAt book i) x (walkFrom G D nodes children book to used)) (fit-divergence G D children (findRecord (nodeAt book i) (records nodes)) (evidenceAt book i to)))
-      ∙ stop-fit G D children (evidenceAt book i to) (nodeAt book i) (fitAt i to) (walkFrom G D nodes children book to used)
+      ap stopOf (walk-next G D nodes children layer book i to used n ∙ ap (λ (x : NodeDivergence). visited (nodeAt book i) x (walkFrom G D nodes children layer book to used)) (fit-divergence G D children (findRecord layer (nodeAt book i) (records nodes)) (evidenceAt book i to)))
+      ∙ stop-fit G D children (evidenceAt book i to) (nodeAt book i) (fitAt i to) (walkFrom G D nodes children layer book to used)
 
-  pub stop-end : (i used : ℕ) → used ≤ i → stopOf (walkFrom G D nodes children book i used) ≡ Passed
-  stop-end i used h = ap stopOf (walk-end G D nodes children book i used h)
+  pub stop-end : (i used : ℕ) → used ≤ i → stopOf (walkFrom G D nodes children layer book i used) ≡ Passed
+  stop-end i used h = ap stopOf (walk-end G D nodes children layer book i used h)
 
 -- ---- the filling
 
@@ -171,7 +171,7 @@ put-figure-length figures n PastTable = refl
 
 -- ---- a walk that is not stopped has a place for each node with a prior
 
-module _ (G D : List Float) (nodes children : List ℕ) where
+module _ (G D : List Float) (nodes children : List ℕ) (layer : ℕ) where
   prior-needed : (node : ℕ) (o : Option Counts) (e : Counts) (rest : Walk) → stopOf (visited node (nodeDivergence G D o e) rest) ≡ Passed → hasPrior o ≡ needed (nodeDivergence G D o e)
   unfolding nodeDivergence
   prior-needed node none e rest h = refl
@@ -182,13 +182,13 @@ module _ (G D : List Float) (nodes children : List ℕ) where
       go false true h = let z : _≡_ {A = ℕ} 0 1 = cc in absurd (omega arith)
       go false false h = refl
 
-  pub places-number : (ns : List Node) → stopOf (walk G D nodes children ns) ≡ Passed → withPrior nodes children ns ≡ length (placesOf (walk G D nodes children ns))
+  pub places-number : (ns : List Node) → stopOf (walk G D nodes children layer ns) ≡ Passed → withPrior nodes children layer ns ≡ length (placesOf (walk G D nodes children layer ns))
   unfolding walk withPrior
   places-number [] h = refl
   places-number (n ∷ ns) h =
-      let prior = priorOf nodes children (n .address) in
-      let on = put-on (n .address) (nodeDivergence G D prior (n .evidence)) (walk G D nodes children ns) h in
-      omega (arith, prior-needed (n .address) prior (n .evidence) (walk G D nodes children ns) h, places-number ns (on .goes-on), on .places-are)
+      let prior = priorOf nodes children layer (n .address) in
+      let on = put-on (n .address) (nodeDivergence G D prior (n .evidence)) (walk G D nodes children layer ns) h in
+      omega (arith, prior-needed (n .address) prior (n .evidence) (walk G D nodes children layer ns) h, places-number ns (on .goes-on), on .places-are)
 
 pub prior-le : (o : Option Counts) → hasPrior o ≤ 1
 prior-le none = omega arith
@@ -253,7 +253,7 @@ module _ (whole : Walk) (addresses₀ : List ℕ) (figures₀ : List Float) wher
 
 -- ---- the answer, by the passes
 
-module _ (G D : List Float) (nodes children : List ℕ) where
+module _ (G D : List Float) (nodes children : List ℕ) (layer : ℕ) where
   stop-visited : (node : ℕ) (x : NodeDivergence) (rest : Walk) → ((q : Refusal) → stopOf rest ≡ Refused q → refused (numberOf q) (namedNode q) ≡ walkReading rest) → (q : Refusal) → stopOf (visited node x rest) ≡ Refused q
       → refused (numberOf q) (namedNode q) ≡ walkReading (visited node x rest)
   stop-visited node (Value x) (stopped n a) on q h = on q h
@@ -263,24 +263,24 @@ module _ (G D : List Float) (nodes children : List ℕ) where
   stop-visited node MissingChild rest on q h = let e : q ≡ AtNode ChildMissing (addressOf node) = cc in ap (λ (p : Refusal). refused (numberOf p) (namedNode p)) e
   stop-visited node PastTable rest on q h = let e : q ≡ AtNode TablePast (addressOf node) = cc in ap (λ (p : Refusal). refused (numberOf p) (namedNode p)) e
 
-  stop-reading : (ns : List Node) (q : Refusal) → stopOf (walk G D nodes children ns) ≡ Refused q → refused (numberOf q) (namedNode q) ≡ walkReading (walk G D nodes children ns)
+  stop-reading : (ns : List Node) (q : Refusal) → stopOf (walk G D nodes children layer ns) ≡ Refused q → refused (numberOf q) (namedNode q) ≡ walkReading (walk G D nodes children layer ns)
   unfolding walk
   stop-reading [] q h = let z : _≡_ {A = ℕ} 0 1 = cc in absurd (omega arith)
-  stop-reading (n ∷ ns) q h = stop-visited (n .address) (nodeDivergence G D (priorOf nodes children (n .address)) (n .evidence)) (walk G D nodes children ns) (stop-reading ns) q h
+  stop-reading (n ∷ ns) q h = stop-visited (n .address) (nodeDivergence G D (priorOf nodes children layer (n .address)) (n .evidence)) (walk G D nodes children layer ns) (stop-reading ns) q h
 
   module _ (ns : List Node) (have : ℕ) where
     -- 13
-    pub all-short : have < withPrior nodes children ns → allListed G D nodes children ns have ≡ refused 13 none
-    all-short h = rw (lt-ltb have (withPrior nodes children ns) h)
+    pub all-short : have < withPrior nodes children layer ns → allListed G D nodes children layer ns have ≡ refused 13 none
+    all-short h = rw (lt-ltb have (withPrior nodes children layer ns) h)
 
-    module _ (enough : withPrior nodes children ns ≤ have) where
+    module _ (enough : withPrior nodes children layer ns ≤ have) where
       -- 14 or 15
-      pub all-stopped : (q : Refusal) → Refused q ≡ stopOf (walk G D nodes children ns) → allListed G D nodes children ns have ≡ refused (numberOf q) (namedNode q)
-      all-stopped q h = rw (le-ltb have (withPrior nodes children ns) enough) (sym (stop-reading ns q (sym h)))
+      pub all-stopped : (q : Refusal) → Refused q ≡ stopOf (walk G D nodes children layer ns) → allListed G D nodes children layer ns have ≡ refused (numberOf q) (namedNode q)
+      all-stopped q h = rw (le-ltb have (withPrior nodes children layer ns) enough) (sym (stop-reading ns q (sym h)))
 
       -- each node with a prior has a place
-      pub all-filled : stopOf (walk G D nodes children ns) ≡ Passed → allListed G D nodes children ns have ≡ answered (record { places = placesOf (walk G D nodes children ns); skipped = skippedOf (walk G D nodes children ns) })
-      all-filled h = rw (le-ltb have (withPrior nodes children ns) enough) (go (walk G D nodes children ns) h)
+      pub all-filled : stopOf (walk G D nodes children layer ns) ≡ Passed → allListed G D nodes children layer ns have ≡ answered (record { places = placesOf (walk G D nodes children layer ns); skipped = skippedOf (walk G D nodes children layer ns) })
+      all-filled h = rw (le-ltb have (withPrior nodes children layer ns) enough) (go (walk G D nodes children layer ns) h)
         where
           go : (w : Walk) → stopOf w ≡ Passed → walkReading w ≡ answered (record { places = placesOf w; skipped = skippedOf w })
           go (stopped n a) h = let z : _≡_ {A = ℕ} 0 1 = cc in absurd (omega arith)

@@ -14,7 +14,7 @@ use borrow.Author.Tests.{leb-false, lt-ltb}
 use Rattle.priors.specs.declared.records.Record.{Record}
 use Rattle.priors.specs.Rows.{Row}
 use Rattle.priors.specs.Tables.{tablesRefusal}
-use Rattle.priors.specs.Priors.{LentPriors, Counts, countSum, total, records, findRecord, priorOf, priorOfNode, priorsRefusal}
+use Rattle.priors.specs.Priors.{LentPriors, layerOf, Counts, countSum, total, records, findRecord, priorOf, priorOfNode, priorsRefusal}
 use Rattle.priors.proofs.Ranks.{Bytes}
 use Rattle.priors.proofs.RuleLaws.{namesNone}
 use Rattle.priors.proofs.PriorLaws.{accepted, Positive, prior-positive, found-small, found-fits, total-le}
@@ -124,15 +124,15 @@ record Sound (o : Option Counts) : Type 0 where
   positive : (p : Counts) → o ≡ some p → Positive p
   fits : (p : Counts) → o ≡ some p → total p < 2 ^ 32 * 65
 
-prior-sound : (nodes children : List ℕ) → Bytes nodes → Bytes children → priorsRefusal nodes children ≡ 0 → (rank : ℕ) → Sound (priorOf nodes children rank)
+prior-sound : (nodes children : List ℕ) (layer : ℕ) → Bytes nodes → Bytes children → priorsRefusal nodes children layer ≡ 0 → (rank : ℕ) → Sound (priorOf nodes children layer rank)
 unfolding priorOf
-prior-sound nodes children n c ok rank = record { positive = prior-positive nodes children (accepted nodes children ok) rank; fits = λ p h. go (findRecord rank (records nodes)) refl p h }
+prior-sound nodes children layer n c ok rank = record { positive = prior-positive nodes children layer (accepted nodes children layer ok) rank; fits = λ p h. go (findRecord layer rank (records nodes)) refl p h }
   where
-    go : (o : Option Record) → findRecord rank (records nodes) ≡ o → (p : Counts) → Option·map (priorOfNode children) o ≡ some p → total p < 2 ^ 32 * 65
+    go : (o : Option Record) → findRecord layer rank (records nodes) ≡ o → (p : Counts) → Option·map (priorOfNode children) o ≡ some p → total p < 2 ^ 32 * 65
     go none e p h = let z : _≡_ {A = ℕ} 0 1 = cc in absurd (omega arith)
     go (some r) e p h =
         let is : priorOfNode children r ≡ p = cc in
-        rw (← is) (total-le children c r (found-small nodes n rank r e) (found-fits nodes children (accepted nodes children ok) rank r e))
+        rw (← is) (total-le children c r (found-small nodes n layer rank r e) (found-fits nodes children layer (accepted nodes children layer ok) rank r e))
 
 -- ---- probabilities
 
@@ -210,25 +210,25 @@ module _ (lnGamma digamma : Float → Float) (G D : List Float) (g : Tabled lnGa
   visited-given node o e lacking rest w on h = absurd (omega arith)
   visited-given node o e past rest w on h = absurd (omega arith)
 
-  module _ (nodes children : List ℕ) (sound : (rank : ℕ) → Sound (priorOf nodes children rank)) where
-    walk-given : (ns : List Node) → Light ns → WalkGiven (gokoAllKl lnGamma digamma (priorOf nodes children) ns) (walk G D nodes children ns)
+  module _ (nodes children : List ℕ) (layer : ℕ) (sound : (rank : ℕ) → Sound (priorOf nodes children layer rank)) where
+    walk-given : (ns : List Node) → Light ns → WalkGiven (gokoAllKl lnGamma digamma (priorOf nodes children layer) ns) (walk G D nodes children layer ns)
     unfolding gokoAllKl walk
     walk-given [] light h = (record { places = []; skipped = 0 }, refl, refl)
     walk-given (n ∷ ns) light h =
-        let o = priorOf nodes children (n .address) in
-        visited-given (n .address) o (n .evidence) (node-given o (n .evidence) (sound (n .address)) (light .0)) (gokoAllKl lnGamma digamma (priorOf nodes children) ns)
-        (walk G D nodes children ns) (walk-given ns (light .1)) h
+        let o = priorOf nodes children layer (n .address) in
+        visited-given (n .address) o (n .evidence) (node-given o (n .evidence) (sound (n .address)) (light .0)) (gokoAllKl lnGamma digamma (priorOf nodes children layer) ns)
+        (walk G D nodes children layer ns) (walk-given ns (light .1)) h
 
-    listed-given : (rank : ℕ) (e : Option Counts) → ((x : Counts) → e ≡ some x → total x ≤ most) → readingNumber (ofListed G D nodes children rank e) ≡ 0
-        → ofListed G D nodes children rank e ≡ figureGiven (gokoNodeKl lnGamma digamma (priorOf nodes children rank) e)
+    listed-given : (rank : ℕ) (e : Option Counts) → ((x : Counts) → e ≡ some x → total x ≤ most) → readingNumber (ofListed G D nodes children layer rank e) ≡ 0
+        → ofListed G D nodes children layer rank e ≡ figureGiven (gokoNodeKl lnGamma digamma (priorOf nodes children layer rank) e)
     unfolding gokoNodeKl
-    listed-given rank none light h = go (priorOf nodes children rank)
+    listed-given rank none light h = go (priorOf nodes children layer rank)
       where
         go : (o : Option Counts) → _≡_ {A = Reading Float} nothing (figureGiven (whereFound o (λ p. none)))
         go none = refl
         go (some p) = refl
     listed-given rank (some e) light h =
-        let o = priorOf nodes children rank in
+        let o = priorOf nodes children layer rank in
         kl-given rank o e (node-given o e (sound rank) (light e refl)) h
 
 -- goko's loop over a list, with its sequence length
@@ -280,10 +280,10 @@ module _ (lnGamma digamma : Float → Float) (G D : List Float) where
       go (inr (inl i)) = let z : _≡_ {A = ℕ} 15 14 = sym (ap (λ (r : NodeDivergence). readingNumber (divergenceReading rank r)) i) ∙ h in absurd (omega arith)
       go (inr (inr i)) = let z : _≡_ {A = ℕ} 0 14 = sym (ap (λ (r : NodeDivergence). readingNumber (divergenceReading rank r)) i) ∙ h in absurd (omega arith)
 
-  module _ (nodes children : List ℕ) where
-    listed-lacks : (rank : ℕ) (e : Option Counts) → readingNumber (ofListed G D nodes children rank e) ≡ 14 → gokoNodeKl lnGamma digamma (priorOf nodes children rank) e ≡ none
+  module _ (nodes children : List ℕ) (layer : ℕ) where
+    listed-lacks : (rank : ℕ) (e : Option Counts) → readingNumber (ofListed G D nodes children layer rank e) ≡ 14 → gokoNodeKl lnGamma digamma (priorOf nodes children layer rank) e ≡ none
     listed-lacks rank none h = absurd (omega arith)
-    listed-lacks rank (some e) h = one-lacks rank (priorOf nodes children rank) e h
+    listed-lacks rank (some e) h = one-lacks rank (priorOf nodes children layer rank) e h
 
     visited-lacks : (node : ℕ) (o : Option Counts) (e : Counts) (rest : Option Divergences) (w : Walk) → (walkNumber w ≡ 14 → rest ≡ none)
         → walkNumber (visited node (nodeDivergence G D o e) w) ≡ 14 → gokoVisited lnGamma digamma node o e rest ≡ none
@@ -300,11 +300,11 @@ module _ (lnGamma digamma : Float → Float) (G D : List Float) where
         go (inr (inl i)) = let z : _≡_ {A = ℕ} 15 14 = number PastTable i in absurd (omega arith)
         go (inr (inr i)) = rw (on (sym (placed-number (record { address = node; value = divergence G D p e }) w) ∙ number (Value (divergence G D p e)) i)) (never (gokoKl lnGamma digamma (floatCounts p) (floatCounts e)))
 
-    walk-lacks : (ns : List Node) → walkNumber (walk G D nodes children ns) ≡ 14 → gokoAllKl lnGamma digamma (priorOf nodes children) ns ≡ none
+    walk-lacks : (ns : List Node) → walkNumber (walk G D nodes children layer ns) ≡ 14 → gokoAllKl lnGamma digamma (priorOf nodes children layer) ns ≡ none
     unfolding walk gokoAllKl
     walk-lacks [] h = absurd (omega arith)
     walk-lacks (n ∷ ns) h =
-        visited-lacks (n .address) (priorOf nodes children (n .address)) (n .evidence) (gokoAllKl lnGamma digamma (priorOf nodes children) ns) (walk G D nodes children ns) (walk-lacks ns) h
+        visited-lacks (n .address) (priorOf nodes children layer (n .address)) (n .evidence) (gokoAllKl lnGamma digamma (priorOf nodes children layer) ns) (walk G D nodes children layer ns) (walk-lacks ns) h
 
 -- ---- the readings
 
@@ -316,13 +316,13 @@ module _ (t : Tracker) (book queue : List ℕ) (priors : LentPriors) (nb : All (
   listed = nodesOf t book
 
   abbrev prior : ℕ → Option Counts
-  prior = priorOf (priors .nodes) (priors .children)
+  prior = priorOf (priors .nodes) (priors .children) (layerOf (priors .floor))
 
   abbrev priorsOf : ℕ
-  priorsOf = priorsRefusal (priors .nodes) (priors .children)
+  priorsOf = priorsRefusal (priors .nodes) (priors .children) (layerOf (priors .floor))
 
   sound : priorsOf ≡ 0 → (rank : ℕ) → Sound (prior rank)
-  sound ok rank = prior-sound (priors .nodes) (priors .children) (all-bytes (priors .nodes) nb) (all-bytes (priors .children) cb) ok rank
+  sound ok rank = prior-sound (priors .nodes) (priors .children) (layerOf (priors .floor)) (all-bytes (priors .nodes) nb) (all-bytes (priors .children) cb) ok rank
 
   light : form ≡ 0 → Light listed
   light ok = form-light t book queue (form-true (inForm t book queue) ok)
@@ -331,8 +331,8 @@ module _ (t : Tracker) (book queue : List ℕ) (priors : LentPriors) (nb : All (
   found ok rank x h = found-light rank listed (light ok) x h
 
   module _ (rank : ℕ) (o : Output) where
-    prob-given : readingNumber (probReading form (priors .nodes) (priors .children) listed rank (roomIn o)) ≡ 0
-        → vectorTelling o (probReading form (priors .nodes) (priors .children) listed rank (roomIn o)) ≡ vectorGiven o (gokoProbVector (prior rank) (evidenceOf rank listed))
+    prob-given : readingNumber (probReading form (priors .nodes) (priors .children) (layerOf (priors .floor)) listed rank (roomIn o)) ≡ 0
+        → vectorTelling o (probReading form (priors .nodes) (priors .children) (layerOf (priors .floor)) listed rank (roomIn o)) ≡ vectorGiven o (gokoProbVector (prior rank) (evidenceOf rank listed))
     unfolding probReading
     prob-given h =
         let c = probVector (prior rank) (evidenceOf rank listed) in
@@ -367,33 +367,33 @@ module _ (t : Tracker) (book queue : List ℕ) (priors : LentPriors) (nb : All (
     abbrev list : Option Divergences
     list = gokoAllKl lnGamma digamma prior listed
 
-    kl-told : (rank : ℕ) → readingNumber (klReading form G D (priors .nodes) (priors .children) listed rank) ≡ 0
-        → klReading form G D (priors .nodes) (priors .children) listed rank ≡ figureGiven (gokoNodeKl lnGamma digamma (prior rank) (evidenceOf rank listed))
+    kl-told : (rank : ℕ) → readingNumber (klReading form G D (priors .nodes) (priors .children) (layerOf (priors .floor)) listed rank) ≡ 0
+        → klReading form G D (priors .nodes) (priors .children) (layerOf (priors .floor)) listed rank ≡ figureGiven (gokoNodeKl lnGamma digamma (prior rank) (evidenceOf rank listed))
     unfolding klReading
     kl-told rank h =
-        let a = passes (ofListed G D (priors .nodes) (priors .children) rank (evidenceOf rank listed)) h in
+        let a = passes (ofListed G D (priors .nodes) (priors .children) (layerOf (priors .floor)) rank (evidenceOf rank listed)) h in
         a .is
-        ∙ listed-given lnGamma digamma G D g d (a .tables-pass) (priors .nodes) (priors .children) (sound (a .priors-pass)) rank (evidenceOf rank listed) (found (a .form-pass) rank) (a .not-refused)
+        ∙ listed-given lnGamma digamma G D g d (a .tables-pass) (priors .nodes) (priors .children) (layerOf (priors .floor)) (sound (a .priors-pass)) rank (evidenceOf rank listed) (found (a .form-pass) rank) (a .not-refused)
 
-    walk-told : {X : Type 0} (r : Reading X) → Passed r → WalkGiven list (walk G D (priors .nodes) (priors .children) listed)
-    walk-told r a = walk-given lnGamma digamma G D g d (a .tables-pass) (priors .nodes) (priors .children) (sound (a .priors-pass)) listed (light (a .form-pass))
+    walk-told : {X : Type 0} (r : Reading X) → Passed r → WalkGiven list (walk G D (priors .nodes) (priors .children) (layerOf (priors .floor)) listed)
+    walk-told r a = walk-given lnGamma digamma G D g d (a .tables-pass) (priors .nodes) (priors .children) (layerOf (priors .floor)) (sound (a .priors-pass)) listed (light (a .form-pass))
 
-    all-told : (o : Output) → readingNumber (allReading form G D (priors .nodes) (priors .children) listed (roomIn o)) ≡ 0
-        → (x : Divergences) × (list ≡ some x) × (allTelling o (allReading form G D (priors .nodes) (priors .children) listed (roomIn o)) ≡ allTelling o (answered x))
+    all-told : (o : Output) → readingNumber (allReading form G D (priors .nodes) (priors .children) (layerOf (priors .floor)) listed (roomIn o)) ≡ 0
+        → (x : Divergences) × (list ≡ some x) × (allTelling o (allReading form G D (priors .nodes) (priors .children) (layerOf (priors .floor)) listed (roomIn o)) ≡ allTelling o (answered x))
     unfolding allReading
     all-told o h =
-        let w = walk G D (priors .nodes) (priors .children) listed in
-        let r = fitting (withPrior (priors .nodes) (priors .children) listed) (roomIn o) (walkReading w) in
+        let w = walk G D (priors .nodes) (priors .children) (layerOf (priors .floor)) listed in
+        let r = fitting (withPrior (priors .nodes) (priors .children) (layerOf (priors .floor)) listed) (roomIn o) (walkReading w) in
         let a = passes r h in
-        let f = fitted (withPrior (priors .nodes) (priors .children) listed) (roomIn o) (walkReading w) (a .not-refused) in
+        let f = fitted (withPrior (priors .nodes) (priors .children) (layerOf (priors .floor)) listed) (roomIn o) (walkReading w) (a .not-refused) in
         let x = walk-told r a (sym (walk-number w) ∙ f .1) in
         (x .0, x .1, ap (allTelling o) (a .is ∙ f .0 ∙ ap walkReading (x .2)))
 
-    stats-told : readingNumber (statsReading form G D (priors .nodes) (priors .children) listed (sequenceLen t)) ≡ 0
-        → (x : Divergences) × (list ≡ some x) × (statsReading form G D (priors .nodes) (priors .children) listed (sequenceLen t) ≡ statsGiven t x)
+    stats-told : readingNumber (statsReading form G D (priors .nodes) (priors .children) (layerOf (priors .floor)) listed (sequenceLen t)) ≡ 0
+        → (x : Divergences) × (list ≡ some x) × (statsReading form G D (priors .nodes) (priors .children) (layerOf (priors .floor)) listed (sequenceLen t) ≡ statsGiven t x)
     unfolding statsReading
     stats-told h =
-        let w = walk G D (priors .nodes) (priors .children) listed in
+        let w = walk G D (priors .nodes) (priors .children) (layerOf (priors .floor)) listed in
         let len = sequenceLen t in
         let a = passes (statsReadingOf len w) h in
         let x = walk-told (statsReadingOf len w) a (sym (stats-number len w) ∙ a .not-refused) in
@@ -403,27 +403,27 @@ module _ (t : Tracker) (book queue : List ℕ) (priors : LentPriors) (nb : All (
 
     checked-fourteen : {X : Type 0} (r : Reading X) → readingNumber (unless (tablesRefusal G D) (unless priorsOf (unless form r))) ≡ 14 → readingNumber r ≡ 14
     checked-fourteen r h =
-        fourteen (checksRefusal t book queue (priors .nodes) (priors .children) G D) r (checks-unnamed t book queue (priors .nodes) (priors .children) G D)
-        (ap readingNumber (sym (checks-are t book queue (priors .nodes) (priors .children) G D r)) ∙ h)
+        fourteen (checksRefusal t book queue (priors .nodes) (priors .children) (layerOf (priors .floor)) G D) r (checks-unnamed t book queue (priors .nodes) (priors .children) (layerOf (priors .floor)) G D)
+        (ap readingNumber (sym (checks-are t book queue (priors .nodes) (priors .children) (layerOf (priors .floor)) G D r)) ∙ h)
 
-    kl-fourteen : (rank : ℕ) → readingNumber (klReading form G D (priors .nodes) (priors .children) listed rank) ≡ 14
+    kl-fourteen : (rank : ℕ) → readingNumber (klReading form G D (priors .nodes) (priors .children) (layerOf (priors .floor)) listed rank) ≡ 14
         → gokoNodeKl lnGamma digamma (prior rank) (evidenceOf rank listed) ≡ none
     unfolding klReading
-    kl-fourteen rank h = listed-lacks lnGamma digamma G D (priors .nodes) (priors .children) rank (evidenceOf rank listed) (checked-fourteen _ h)
+    kl-fourteen rank h = listed-lacks lnGamma digamma G D (priors .nodes) (priors .children) (layerOf (priors .floor)) rank (evidenceOf rank listed) (checked-fourteen _ h)
 
-    walk-fourteen : walkNumber (walk G D (priors .nodes) (priors .children) listed) ≡ 14 → list ≡ none
-    walk-fourteen h = walk-lacks lnGamma digamma G D (priors .nodes) (priors .children) listed h
+    walk-fourteen : walkNumber (walk G D (priors .nodes) (priors .children) (layerOf (priors .floor)) listed) ≡ 14 → list ≡ none
+    walk-fourteen h = walk-lacks lnGamma digamma G D (priors .nodes) (priors .children) (layerOf (priors .floor)) listed h
 
-    all-fourteen : (have : ℕ) → readingNumber (allReading form G D (priors .nodes) (priors .children) listed have) ≡ 14 → list ≡ none
+    all-fourteen : (have : ℕ) → readingNumber (allReading form G D (priors .nodes) (priors .children) (layerOf (priors .floor)) listed have) ≡ 14 → list ≡ none
     unfolding allReading
     all-fourteen have h =
-        let w = walk G D (priors .nodes) (priors .children) listed in
-        walk-fourteen (sym (walk-number w) ∙ fitting-fourteen (withPrior (priors .nodes) (priors .children) listed) have (walkReading w) (checked-fourteen _ h))
+        let w = walk G D (priors .nodes) (priors .children) (layerOf (priors .floor)) listed in
+        walk-fourteen (sym (walk-number w) ∙ fitting-fourteen (withPrior (priors .nodes) (priors .children) (layerOf (priors .floor)) listed) have (walkReading w) (checked-fourteen _ h))
 
-    stats-fourteen : (len : ℕ) → readingNumber (statsReading form G D (priors .nodes) (priors .children) listed len) ≡ 14 → list ≡ none
+    stats-fourteen : (len : ℕ) → readingNumber (statsReading form G D (priors .nodes) (priors .children) (layerOf (priors .floor)) listed len) ≡ 14 → list ≡ none
     unfolding statsReading
     stats-fourteen len h =
-        let w = walk G D (priors .nodes) (priors .children) listed in
+        let w = walk G D (priors .nodes) (priors .children) (layerOf (priors .floor)) listed in
         walk-fourteen (sym (stats-number len w) ∙ checked-fourteen (statsReadingOf len w) h)
 
 pub goko-gives-the-same : GokoGivesTheSame
@@ -433,8 +433,8 @@ goko-gives-the-same t book queue tables priors nb cb lnGamma digamma g d rank o 
     let f = formRefusal t book queue in
     let ns = nodesOf t book in
     let have = roomIn o in
-    let all = all-number (allReading f G D (priors .nodes) (priors .children) ns have) in (
-      λ h. prob-given t book queue priors nb cb rank o (sym (vector-number (probReading f (priors .nodes) (priors .children) ns rank have)) ∙ h),
+    let all = all-number (allReading f G D (priors .nodes) (priors .children) (layerOf (priors .floor)) ns have) in (
+      λ h. prob-given t book queue priors nb cb rank o (sym (vector-number (probReading f (priors .nodes) (priors .children) (layerOf (priors .floor)) ns rank have)) ∙ h),
       λ h. evidence-told t book queue priors nb cb rank o (sym (vector-number (evidenceReading f ns rank have)) ∙ h),
       kl-told t book queue priors nb cb lnGamma digamma G D g d rank,
       λ h. all-told t book queue priors nb cb lnGamma digamma G D g d o (sym all ∙ h),

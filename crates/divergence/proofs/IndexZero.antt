@@ -13,7 +13,7 @@ use borrow.Author.Tests.{ltb-true}
 use Rattle.priors.specs.Below.{allBelow}
 use Rattle.priors.specs.Rows.{Row, countOf}
 use Rattle.priors.specs.Tables.{within, tableAt, entryFits, entriesFit, lengthsFit, tablesRefusal}
-use Rattle.priors.specs.Priors.{Counts, total, priorOf, priorsRefusal}
+use Rattle.priors.specs.Priors.{layerOf, Counts, total, priorOf, priorsRefusal}
 use Rattle.priors.proofs.PriorLaws.{accepted, Positive, prior-positive}
 use Rattle.divergence.specs.declared.sums.Sums.{Sums}
 use Rattle.divergence.specs.Nodes.{Node, evidenceOf}
@@ -102,41 +102,41 @@ module _ (g g′ d d′ : Float) (G D : List Float) where
   same-node none positive e = refl
   same-node (some p) positive e = same-cond (lacksChild (p .children) (e .children)) (λ h. refl) (λ h. rw (same-divergence p (positive p refl) e h))
 
-  module _ (nodes children : List ℕ) where
-    same-checked : {X : Type 0} (form : ℕ) {r s : Reading X} → (priorsRefusal nodes children ≡ 0 → r ≡ s)
-        → unless (tablesRefusal (g ∷ G) (d ∷ D)) (unless (priorsRefusal nodes children) (unless form r))
-        ≡ unless (tablesRefusal (g′ ∷ G) (d′ ∷ D)) (unless (priorsRefusal nodes children) (unless form s))
-    same-checked form h = ap₂ unless same-tables (same-unless (priorsRefusal nodes children) (λ ok. ap (unless form) (h ok)))
+  module _ (nodes children : List ℕ) (layer : ℕ) where
+    same-checked : {X : Type 0} (form : ℕ) {r s : Reading X} → (priorsRefusal nodes children layer ≡ 0 → r ≡ s)
+        → unless (tablesRefusal (g ∷ G) (d ∷ D)) (unless (priorsRefusal nodes children layer) (unless form r))
+        ≡ unless (tablesRefusal (g′ ∷ G) (d′ ∷ D)) (unless (priorsRefusal nodes children layer) (unless form s))
+    same-checked form h = ap₂ unless same-tables (same-unless (priorsRefusal nodes children layer) (λ ok. ap (unless form) (h ok)))
 
-    module _ (ok : priorsRefusal nodes children ≡ 0) where
-      same-ranked : (rank : ℕ) (e : Counts) → nodeDivergence (g ∷ G) (d ∷ D) (priorOf nodes children rank) e ≡ nodeDivergence (g′ ∷ G) (d′ ∷ D) (priorOf nodes children rank) e
-      same-ranked rank e = same-node (priorOf nodes children rank) (prior-positive nodes children (accepted nodes children ok) rank) e
+    module _ (ok : priorsRefusal nodes children layer ≡ 0) where
+      same-ranked : (rank : ℕ) (e : Counts) → nodeDivergence (g ∷ G) (d ∷ D) (priorOf nodes children layer rank) e ≡ nodeDivergence (g′ ∷ G) (d′ ∷ D) (priorOf nodes children layer rank) e
+      same-ranked rank e = same-node (priorOf nodes children layer rank) (prior-positive nodes children layer (accepted nodes children layer ok) rank) e
 
-      same-listed : (rank : ℕ) (o : Option Counts) → ofListed (g ∷ G) (d ∷ D) nodes children rank o ≡ ofListed (g′ ∷ G) (d′ ∷ D) nodes children rank o
+      same-listed : (rank : ℕ) (o : Option Counts) → ofListed (g ∷ G) (d ∷ D) nodes children layer rank o ≡ ofListed (g′ ∷ G) (d′ ∷ D) nodes children layer rank o
       same-listed rank none = refl
       same-listed rank (some e) = ap (divergenceReading rank) (same-ranked rank e)
 
-      same-walk : (ns : List Node) → walk (g ∷ G) (d ∷ D) nodes children ns ≡ walk (g′ ∷ G) (d′ ∷ D) nodes children ns
+      same-walk : (ns : List Node) → walk (g ∷ G) (d ∷ D) nodes children layer ns ≡ walk (g′ ∷ G) (d′ ∷ D) nodes children layer ns
       unfolding walk
       same-walk [] = refl
       same-walk (n ∷ ns) = ap₂ (visited (n .address)) (same-ranked (n .address) (n .evidence)) (same-walk ns)
 
     module _ (form : ℕ) (ns : List Node) where
-      kl-same : (rank : ℕ) → klReading form (g ∷ G) (d ∷ D) nodes children ns rank ≡ klReading form (g′ ∷ G) (d′ ∷ D) nodes children ns rank
+      kl-same : (rank : ℕ) → klReading form (g ∷ G) (d ∷ D) nodes children layer ns rank ≡ klReading form (g′ ∷ G) (d′ ∷ D) nodes children layer ns rank
       unfolding klReading
       kl-same rank = same-checked form (λ ok. same-listed ok rank (evidenceOf rank ns))
 
-      all-same : (have : ℕ) → allReading form (g ∷ G) (d ∷ D) nodes children ns have ≡ allReading form (g′ ∷ G) (d′ ∷ D) nodes children ns have
+      all-same : (have : ℕ) → allReading form (g ∷ G) (d ∷ D) nodes children layer ns have ≡ allReading form (g′ ∷ G) (d′ ∷ D) nodes children layer ns have
       unfolding allReading
-      all-same have = same-checked form (λ ok. ap (λ (w : Walk). fitting (withPrior nodes children ns) have (walkReading w)) (same-walk ok ns))
+      all-same have = same-checked form (λ ok. ap (λ (w : Walk). fitting (withPrior nodes children layer ns) have (walkReading w)) (same-walk ok ns))
 
-      pub stats-same : (len : ℕ) → statsReading form (g ∷ G) (d ∷ D) nodes children ns len ≡ statsReading form (g′ ∷ G) (d′ ∷ D) nodes children ns len
+      pub stats-same : (len : ℕ) → statsReading form (g ∷ G) (d ∷ D) nodes children layer ns len ≡ statsReading form (g′ ∷ G) (d′ ∷ D) nodes children layer ns len
       unfolding statsReading
       stats-same len = same-checked form (λ ok. ap (statsReadingOf len) (same-walk ok ns))
 
 pub index-zero-unread : IndexZeroUnread
 index-zero-unread s p rank o = (
-  λ g g′ d d′ G D. kl-same g g′ d d′ G D (p .nodes) (p .children) (s .form) (s .listed) rank,
-  λ g g′ d d′ G D. rw (all-same g g′ d d′ G D (p .nodes) (p .children) (s .form) (s .listed) (roomIn o)),
-  λ g g′ d d′ G D. stats-same g g′ d d′ G D (p .nodes) (p .children) (s .form) (s .listed) (s .sequenceLength),
+  λ g g′ d d′ G D. kl-same g g′ d d′ G D (p .nodes) (p .children) (layerOf (p .floor)) (s .form) (s .listed) rank,
+  λ g g′ d d′ G D. rw (all-same g g′ d d′ G D (p .nodes) (p .children) (layerOf (p .floor)) (s .form) (s .listed) (roomIn o)),
+  λ g g′ d d′ G D. stats-same g g′ d d′ G D (p .nodes) (p .children) (layerOf (p .floor)) (s .form) (s .listed) (s .sequenceLength),
 )

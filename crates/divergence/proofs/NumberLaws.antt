@@ -10,7 +10,7 @@ use lib.ListN.{length}
 use lib.Ieee.{Float}
 use Rattle.priors.specs.Address.{rankOf}
 use Rattle.priors.specs.Tables.{tablesRefusal}
-use Rattle.priors.specs.Priors.{Counts, priorOf, priorsRefusal}
+use Rattle.priors.specs.Priors.{layerOf, Counts, priorOf, priorsRefusal}
 use Rattle.priors.proofs.RuleLaws.{notNine, tables-keep, priors-keep}
 use Rattle.book.specs.Path.{Steps}
 use Rattle.book.specs.Recount.{sequenceLength}
@@ -35,8 +35,8 @@ is-not n h e = let z : _≡_ {A = ℕ} 0 1 = cc in omega arith
 tables-not : (G D : List Float) → Not9 (tablesRefusal G D)
 tables-not G D = is-not (tablesRefusal G D) (tables-keep notNine G D refl refl)
 
-priors-not : (nodes children : List ℕ) → Not9 (priorsRefusal nodes children)
-priors-not nodes children = is-not (priorsRefusal nodes children) (priors-keep notNine nodes children refl refl)
+priors-not : (nodes children : List ℕ) (layer : ℕ) → Not9 (priorsRefusal nodes children layer)
+priors-not nodes children layer = is-not (priorsRefusal nodes children layer) (priors-keep notNine nodes children layer refl refl)
 
 -- ---- the parts of a reading
 
@@ -71,9 +71,9 @@ divergence-other rank NoPrior = nothing-other
 divergence-other rank MissingChild = record { not-nine = λ e. omega arith }
 divergence-other rank PastTable = record { not-nine = λ e. omega arith }
 
-listed-other : (G D : List Float) (nodes children : List ℕ) (rank : ℕ) (o : Option Counts) → Other (ofListed G D nodes children rank o)
-listed-other G D nodes children rank none = nothing-other
-listed-other G D nodes children rank (some c) = divergence-other rank (nodeDivergence G D (priorOf nodes children rank) c)
+listed-other : (G D : List Float) (nodes children : List ℕ) (layer rank : ℕ) (o : Option Counts) → Other (ofListed G D nodes children layer rank o)
+listed-other G D nodes children layer rank none = nothing-other
+listed-other G D nodes children layer rank (some c) = divergence-other rank (nodeDivergence G D (priorOf nodes children layer rank) c)
 
 -- a walk ends by 14 or 15
 abbrev pub walkNumber : Walk → ℕ
@@ -104,11 +104,11 @@ visited-not node NoPrior rest h = rw (skipping-number rest) h
 visited-not node MissingChild rest h = λ e. omega arith
 visited-not node PastTable rest h = λ e. omega arith
 
-walk-not : (G D : List Float) (nodes children : List ℕ) (ns : List Node) → Not9 (walkNumber (walk G D nodes children ns))
+walk-not : (G D : List Float) (nodes children : List ℕ) (layer : ℕ) (ns : List Node) → Not9 (walkNumber (walk G D nodes children layer ns))
 unfolding walk
-walk-not G D nodes children [] = λ e. omega arith
-walk-not G D nodes children (n ∷ ns) =
-    visited-not (n .address) (nodeDivergence G D (priorOf nodes children (n .address)) (n .evidence)) (walk G D nodes children ns) (walk-not G D nodes children ns)
+walk-not G D nodes children layer [] = λ e. omega arith
+walk-not G D nodes children layer (n ∷ ns) =
+    visited-not (n .address) (nodeDivergence G D (priorOf nodes children layer (n .address)) (n .evidence)) (walk G D nodes children layer ns) (walk-not G D nodes children layer ns)
 
 walked-other : (w : Walk) → Not9 (walkNumber w) → Other (walkReading w)
 walked-other w h = record { not-nine = rw (walk-number w) h }
@@ -124,34 +124,34 @@ mapped-other part {r = refused n node} h = record { not-nine = h .not-nine }
 mapped-other part {r = nothing} h = nothing-other
 mapped-other part {r = answered x} h = answered-other (part x)
 
-prob-other : (nodes children : List ℕ) (ns : List Node) (rank have : ℕ) → Other (probReading 0 nodes children ns rank have)
+prob-other : (nodes children : List ℕ) (layer : ℕ) (ns : List Node) (rank have : ℕ) → Other (probReading 0 nodes children layer ns rank have)
 unfolding probReading
-prob-other nodes children ns rank have = unless-other (priors-not nodes children) (vector-other have (Vectors.probVector (priorOf nodes children rank) (evidenceOf rank ns)))
+prob-other nodes children layer ns rank have = unless-other (priors-not nodes children layer) (vector-other have (Vectors.probVector (priorOf nodes children layer rank) (evidenceOf rank ns)))
 
 evidence-other : (ns : List Node) (rank have : ℕ) → Other (evidenceReading 0 ns rank have)
 unfolding evidenceReading
 evidence-other ns rank have = vector-other have (Vectors.evidenceProbVector (evidenceOf rank ns))
 
-kl-other : (G D : List Float) (nodes children : List ℕ) (ns : List Node) (rank : ℕ) → Other (klReading 0 G D nodes children ns rank)
+kl-other : (G D : List Float) (nodes children : List ℕ) (layer : ℕ) (ns : List Node) (rank : ℕ) → Other (klReading 0 G D nodes children layer ns rank)
 unfolding klReading
-kl-other G D nodes children ns rank = unless-other (tables-not G D) (unless-other (priors-not nodes children) (listed-other G D nodes children rank (evidenceOf rank ns)))
+kl-other G D nodes children layer ns rank = unless-other (tables-not G D) (unless-other (priors-not nodes children layer) (listed-other G D nodes children layer rank (evidenceOf rank ns)))
 
-all-other : (G D : List Float) (nodes children : List ℕ) (ns : List Node) (have : ℕ) → Other (allReading 0 G D nodes children ns have)
+all-other : (G D : List Float) (nodes children : List ℕ) (layer : ℕ) (ns : List Node) (have : ℕ) → Other (allReading 0 G D nodes children layer ns have)
 unfolding allReading
-all-other G D nodes children ns have =
-    unless-other (tables-not G D) (unless-other (priors-not nodes children) (fitting-other (withPrior nodes children ns) have (walked-other (walk G D nodes children ns) (walk-not G D nodes children ns))))
+all-other G D nodes children layer ns have =
+    unless-other (tables-not G D) (unless-other (priors-not nodes children layer) (fitting-other (withPrior nodes children layer ns) have (walked-other (walk G D nodes children layer ns) (walk-not G D nodes children layer ns))))
 
-div-stats-other : (G D : List Float) (nodes children : List ℕ) (ns : List Node) (len : ℕ) → Other (statsReading 0 G D nodes children ns len)
+div-stats-other : (G D : List Float) (nodes children : List ℕ) (layer : ℕ) (ns : List Node) (len : ℕ) → Other (statsReading 0 G D nodes children layer ns len)
 unfolding statsReading
-div-stats-other G D nodes children ns len =
-    unless-other (tables-not G D) (unless-other (priors-not nodes children) (stats-other len (walk G D nodes children ns) (walk-not G D nodes children ns)))
+div-stats-other G D nodes children layer ns len =
+    unless-other (tables-not G D) (unless-other (priors-not nodes children layer) (stats-other len (walk G D nodes children layer ns) (walk-not G D nodes children layer ns)))
 
 -- no reading is lent another tracker yet
 pub reading-not-nine : (W : ℕ) (H : List Steps) (c : ReadingCall) → answerNumber (reading (recountSeen W H) c) ≡ 9 → otherForm c ≡ 9
 unfolding reading
 reading-not-nine W H (probVector p scale point o) e =
-    absurd (mapped-other vector (mapped-other _ (prob-other (p .nodes) (p .children) (recountNodes W H) (rankOf scale point) (roomIn o))) .not-nine e)
+    absurd (mapped-other vector (mapped-other _ (prob-other (p .nodes) (p .children) (layerOf (p .floor)) (recountNodes W H) (rankOf scale point) (roomIn o))) .not-nine e)
 reading-not-nine W H (evidenceProbVector scale point o) e = absurd (mapped-other vector (mapped-other _ (evidence-other (recountNodes W H) (rankOf scale point) (roomIn o))) .not-nine e)
-reading-not-nine W H (posteriorKlDivergence t p scale point) e = absurd (mapped-other kl (kl-other (t .G) (t .D) (p .nodes) (p .children) (recountNodes W H) (rankOf scale point)) .not-nine e)
-reading-not-nine W H (allNodeKl t p o) e = absurd (mapped-other allKl (mapped-other _ (all-other (t .G) (t .D) (p .nodes) (p .children) (recountNodes W H) (roomIn o))) .not-nine e)
-reading-not-nine W H (klDivStats t p) e = absurd (mapped-other stats (div-stats-other (t .G) (t .D) (p .nodes) (p .children) (recountNodes W H) (sequenceLength W H)) .not-nine e)
+reading-not-nine W H (posteriorKlDivergence t p scale point) e = absurd (mapped-other kl (kl-other (t .G) (t .D) (p .nodes) (p .children) (layerOf (p .floor)) (recountNodes W H) (rankOf scale point)) .not-nine e)
+reading-not-nine W H (allNodeKl t p o) e = absurd (mapped-other allKl (mapped-other _ (all-other (t .G) (t .D) (p .nodes) (p .children) (layerOf (p .floor)) (recountNodes W H) (roomIn o))) .not-nine e)
+reading-not-nine W H (klDivStats t p) e = absurd (mapped-other stats (div-stats-other (t .G) (t .D) (p .nodes) (p .children) (layerOf (p .floor)) (recountNodes W H) (sequenceLength W H)) .not-nine e)

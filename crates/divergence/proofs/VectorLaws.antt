@@ -94,22 +94,22 @@ unlisted-none = refl
 
 -- ---- the cases of the readings
 
-module _ (form : ℕ) (nodes children : List ℕ) (ns : List Node) (rank have : ℕ) where
-  pub prob-refused : (r : Refusal) → numberOf r ≡ priorsRefusal nodes children → probReading form nodes children ns rank have ≡ refused (numberOf r) (namedNode r)
+module _ (form : ℕ) (nodes children : List ℕ) (layer : ℕ) (ns : List Node) (rank have : ℕ) where
+  pub prob-refused : (r : Refusal) → numberOf r ≡ priorsRefusal nodes children layer → probReading form nodes children layer ns rank have ≡ refused (numberOf r) (namedNode r)
   unfolding probReading
-  prob-refused r e = sym (unless-refused r (priorsRefusal nodes children) (unless form (vectorReading have (probVector (priorOf nodes children rank) (evidenceOf rank ns)))) e (priors-unnamed nodes children))
+  prob-refused r e = sym (unless-refused r (priorsRefusal nodes children layer) (unless form (vectorReading have (probVector (priorOf nodes children layer rank) (evidenceOf rank ns)))) e (priors-unnamed nodes children layer))
 
-  module _ (passed : priorsRefusal nodes children ≡ 0) where
-    pub prob-form : form ≡ 9 → probReading form nodes children ns rank have ≡ refused 9 none
+  module _ (passed : priorsRefusal nodes children layer ≡ 0) where
+    pub prob-form : form ≡ 9 → probReading form nodes children layer ns rank have ≡ refused 9 none
     unfolding probReading
     prob-form f = rw (passed, f)
 
-    pub prob-none : form ≡ 0 → findRecord rank (records nodes) ≡ none → probReading form nodes children ns rank have ≡ nothing
+    pub prob-none : form ≡ 0 → findRecord layer rank (records nodes) ≡ none → probReading form nodes children layer ns rank have ≡ nothing
     unfolding probReading probVector priorOf
     prob-none f h = rw (passed, f, h)
 
-    pub prob-some : form ≡ 0 → (n : Record) → findRecord rank (records nodes) ≡ some n
-        → probReading form nodes children ns rank have ≡ vectorReading have (some (posterior (priorOfNode children n) (evidenceOf rank ns)))
+    pub prob-some : form ≡ 0 → (n : Record) → findRecord layer rank (records nodes) ≡ some n
+        → probReading form nodes children layer ns rank have ≡ vectorReading have (some (posterior (priorOfNode children n) (evidenceOf rank ns)))
     unfolding probReading probVector priorOf
     prob-some f n h = rw (passed, f, h)
 

@@ -242,21 +242,21 @@ next book bytes i to used l h e =
       nodes-are = nodes-cons book bytes i used l h;
     })
 
-module _ (G D : List Float) (nodes children book : List ℕ) where
+module _ (G D : List Float) (nodes children : List ℕ) (layer : ℕ) (book : List ℕ) where
   -- the divergence of the node whose ending stands at i
   abbrev pub divergenceAt : ℕ → ℕ → NodeDivergence
-  divergenceAt i to = nodeDivergence G D (priorOf nodes children (nodeAt book i)) (evidenceAt book i to)
+  divergenceAt i to = nodeDivergence G D (priorOf nodes children layer (nodeAt book i)) (evidenceAt book i to)
 
   abbrev pub walkFrom : ℕ → ℕ → Walk
-  walkFrom i used = walk G D nodes children (nodesFrom book i used)
+  walkFrom i used = walk G D nodes children layer (nodesFrom book i used)
 
   pub walk-next : (i to used : ℕ) → Next book i to used → walkFrom i used ≡ visited (nodeAt book i) (divergenceAt i to) (walkFrom to used)
   unfolding walk
-  walk-next i to used n = ap (walk G D nodes children) (n .nodes-are)
+  walk-next i to used n = ap (walk G D nodes children layer) (n .nodes-are)
 
   pub walk-end : (i used : ℕ) → used ≤ i → walkFrom i used ≡ walked [] 0
   unfolding walk listedNodes spread
-  walk-end i used h = ap (λ (rs : List Row). walk G D nodes children (listedNodes rs)) (part-none book i used h)
+  walk-end i used h = ap (λ (rs : List Row). walk G D nodes children layer (listedNodes rs)) (part-none book i used h)
 
   pub tally-next : (t : Tally) (i to used : ℕ) → Next book i to used → tallyReading t (walkFrom i used) ≡ talliedReading (tallyOf t (nodeAt book i) (divergenceAt i to)) (walkFrom to used)
   tally-next t i to used n = ap (tallyReading t) (walk-next i to used n) ∙ tally-on t (nodeAt book i) (divergenceAt i to) (walkFrom to used)

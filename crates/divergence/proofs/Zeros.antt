@@ -14,7 +14,7 @@ use lib.Ieee.Fits.{add-fits, mul-fits, neg-fits}
 use lib.Ieee.Bits.{nanBits-is, toBits-ofBits}
 use Rattle.priors.specs.Rows.{Row, countOf}
 use Rattle.priors.specs.Tables.{tablesRefusal, tableAt, LentTables}
-use Rattle.priors.specs.Priors.{LentPriors, Counts, total, priorOf, priorsRefusal}
+use Rattle.priors.specs.Priors.{LentPriors, layerOf, Counts, total, priorOf, priorsRefusal}
 use Rattle.book.specs.Figures.{All}
 use Rattle.divergence.specs.declared.sums.Sums.{Sums}
 use Rattle.divergence.specs.declared.divergences.NodeDivergence.{NodeDivergence}
@@ -172,12 +172,12 @@ module _ (G D : List Float) where
       go false true = tt
       go false false = divergence-clear G D p e
 
-  walk-clear : (nodes children : List ℕ) (ns : List Node) → ClearWalk (walk G D nodes children ns)
+  walk-clear : (nodes children : List ℕ) (layer : ℕ) (ns : List Node) → ClearWalk (walk G D nodes children layer ns)
   unfolding walk
-  walk-clear nodes children [] = tt
-  walk-clear nodes children (n ∷ ns) =
-      visited-clear (n .address) (nodeDivergence G D (priorOf nodes children (n .address)) (n .evidence)) (walk G D nodes children ns)
-      (node-clear (priorOf nodes children (n .address)) (n .evidence)) (walk-clear nodes children ns)
+  walk-clear nodes children layer [] = tt
+  walk-clear nodes children layer (n ∷ ns) =
+      visited-clear (n .address) (nodeDivergence G D (priorOf nodes children layer (n .address)) (n .evidence)) (walk G D nodes children layer ns)
+      (node-clear (priorOf nodes children layer (n .address)) (n .evidence)) (walk-clear nodes children layer ns)
 
 -- ---- statistics
 
@@ -260,7 +260,7 @@ walk-stats sequenceLength (walked ps k) h =
 module _ (s : Seen) (t : LentTables) (p : LentPriors) (rank : ℕ) (o : Output) where
   one-told : ToldWithout figureOf (klAsked s t p rank)
   unfolding klReading
-  one-told = checked figureOf (tablesRefusal (t .G) (t .D)) (priorsRefusal (p .nodes) (p .children)) (s .form) (ofListed (t .G) (t .D) (p .nodes) (p .children) rank (evidenceOf rank (s .listed))) (of-listed (evidenceOf rank (s .listed)))
+  one-told = checked figureOf (tablesRefusal (t .G) (t .D)) (priorsRefusal (p .nodes) (p .children) (layerOf (p .floor))) (s .form) (ofListed (t .G) (t .D) (p .nodes) (p .children) (layerOf (p .floor)) rank (evidenceOf rank (s .listed))) (of-listed (evidenceOf rank (s .listed)))
     where
       of-node : (d : NodeDivergence) → ClearNode d → ToldWithout figureOf (divergenceReading rank d)
       of-node (Value x) h = (h .1, tt)
@@ -268,27 +268,27 @@ module _ (s : Seen) (t : LentTables) (p : LentPriors) (rank : ℕ) (o : Output) 
       of-node MissingChild h = tt
       of-node PastTable h = tt
 
-      of-listed : (e : Option Counts) → ToldWithout figureOf (ofListed (t .G) (t .D) (p .nodes) (p .children) rank e)
+      of-listed : (e : Option Counts) → ToldWithout figureOf (ofListed (t .G) (t .D) (p .nodes) (p .children) (layerOf (p .floor)) rank e)
       of-listed none = tt
-      of-listed (some e) = of-node (nodeDivergence (t .G) (t .D) (priorOf (p .nodes) (p .children) rank) e) (node-clear (t .G) (t .D) (priorOf (p .nodes) (p .children) rank) e)
+      of-listed (some e) = of-node (nodeDivergence (t .G) (t .D) (priorOf (p .nodes) (p .children) (layerOf (p .floor)) rank) e) (node-clear (t .G) (t .D) (priorOf (p .nodes) (p .children) (layerOf (p .floor)) rank) e)
 
   abbrev walked-over : Walk
-  walked-over = walk (t .G) (t .D) (p .nodes) (p .children) (s .listed)
+  walked-over = walk (t .G) (t .D) (p .nodes) (p .children) (layerOf (p .floor)) (s .listed)
 
   walked-clear : ClearWalk walked-over
-  walked-clear = walk-clear (t .G) (t .D) (p .nodes) (p .children) (s .listed)
+  walked-clear = walk-clear (t .G) (t .D) (p .nodes) (p .children) (layerOf (p .floor)) (s .listed)
 
-  all-told : ToldWithout (λ (a : Divergences). valuesOf (a .places)) (allReading (s .form) (t .G) (t .D) (p .nodes) (p .children) (s .listed) (roomIn o))
+  all-told : ToldWithout (λ (a : Divergences). valuesOf (a .places)) (allReading (s .form) (t .G) (t .D) (p .nodes) (p .children) (layerOf (p .floor)) (s .listed) (roomIn o))
   unfolding allReading
   all-told =
-      checked (λ (a : Divergences). valuesOf (a .places)) (tablesRefusal (t .G) (t .D)) (priorsRefusal (p .nodes) (p .children)) (s .form)
-      (allListed (t .G) (t .D) (p .nodes) (p .children) (s .listed) (roomIn o))
-      (told-fitting (λ (a : Divergences). valuesOf (a .places)) (withPrior (p .nodes) (p .children) (s .listed)) (roomIn o) (walkReading walked-over) (walk-told walked-over walked-clear))
+      checked (λ (a : Divergences). valuesOf (a .places)) (tablesRefusal (t .G) (t .D)) (priorsRefusal (p .nodes) (p .children) (layerOf (p .floor))) (s .form)
+      (allListed (t .G) (t .D) (p .nodes) (p .children) (layerOf (p .floor)) (s .listed) (roomIn o))
+      (told-fitting (λ (a : Divergences). valuesOf (a .places)) (withPrior (p .nodes) (p .children) (layerOf (p .floor)) (s .listed)) (roomIn o) (walkReading walked-over) (walk-told walked-over walked-clear))
 
   stats-told : ToldWithout statisticsOf (statsAsked s t p)
   unfolding statsReading
   stats-told =
-      checked statisticsOf (tablesRefusal (t .G) (t .D)) (priorsRefusal (p .nodes) (p .children)) (s .form) (statsReadingOf (s .sequenceLength) walked-over)
+      checked statisticsOf (tablesRefusal (t .G) (t .D)) (priorsRefusal (p .nodes) (p .children) (layerOf (p .floor))) (s .form) (statsReadingOf (s .sequenceLength) walked-over)
       (walk-stats (s .sequenceLength) walked-over walked-clear)
 
 -- what is told of all nodes fills the output
@@ -300,8 +300,8 @@ all-filled o (answered a) h = filled-without (valuesOf (a .places)) (o .figures)
 pub no-minus-zero : NoMinusZero
 no-minus-zero s t p rank o = (
   one-told s t p rank o,
-  all-filled o (allReading (s .form) (t .G) (t .D) (p .nodes) (p .children) (s .listed) (roomIn o)) (all-told s t p rank o),
+  all-filled o (allReading (s .form) (t .G) (t .D) (p .nodes) (p .children) (layerOf (p .floor)) (s .listed) (roomIn o)) (all-told s t p rank o),
   stats-told s t p rank o,
-  vector-told o (probReading (s .form) (p .nodes) (p .children) (s .listed) rank (roomIn o)),
+  vector-told o (probReading (s .form) (p .nodes) (p .children) (layerOf (p .floor)) (s .listed) rank (roomIn o)),
   vector-told o (evidenceReading (s .form) (s .listed) rank (roomIn o)),
 )

@@ -4,7 +4,7 @@ use Prim.Native.Nat.{ℕ}
 use mathlib.Core.List.{List}
 use lib.Ieee.{Float}
 use Rattle.priors.specs.Tables.{LentTables}
-use Rattle.priors.specs.Priors.{LentPriors, Counts}
+use Rattle.priors.specs.Priors.{LentPriors, layerOf, Counts}
 use Rattle.book.specs.declared.trackers.Tracker.{Tracker}
 use Rattle.divergence.specs.declared.answers.ProbVector.{ProbVector}
 use Rattle.divergence.specs.declared.answers.AllNodeKl.{AllNodeKl}
@@ -57,16 +57,16 @@ abbrev pub allTelling : Output → Reading Divergences → Telling AllResult
 allTelling o r = record { answer = allResult r; output = lentOutput (allAddresses r (o .addresses)) (allFigures r (o .figures)) }
 
 abbrev pub probAsked : Seen → LentPriors → (rank : ℕ) → Output → Telling VectorResult
-probAsked s p rank o = vectorTelling o (probReading (s .form) (p .nodes) (p .children) (s .listed) rank (roomIn o))
+probAsked s p rank o = vectorTelling o (probReading (s .form) (p .nodes) (p .children) (layerOf (p .floor)) (s .listed) rank (roomIn o))
 
 abbrev pub evidenceAsked : Seen → (rank : ℕ) → Output → Telling VectorResult
 evidenceAsked s rank o = vectorTelling o (evidenceReading (s .form) (s .listed) rank (roomIn o))
 
 abbrev pub klAsked : Seen → LentTables → LentPriors → (rank : ℕ) → Reading Float
-klAsked s t p rank = klReading (s .form) (t .G) (t .D) (p .nodes) (p .children) (s .listed) rank
+klAsked s t p rank = klReading (s .form) (t .G) (t .D) (p .nodes) (p .children) (layerOf (p .floor)) (s .listed) rank
 
 abbrev pub allAsked : Seen → LentTables → LentPriors → Output → Telling AllResult
-allAsked s t p o = allTelling o (allReading (s .form) (t .G) (t .D) (p .nodes) (p .children) (s .listed) (roomIn o))
+allAsked s t p o = allTelling o (allReading (s .form) (t .G) (t .D) (p .nodes) (p .children) (layerOf (p .floor)) (s .listed) (roomIn o))
 
 abbrev pub statsAsked : Seen → LentTables → LentPriors → Reading Statistics
-statsAsked s t p = statsReading (s .form) (t .G) (t .D) (p .nodes) (p .children) (s .listed) (s .sequenceLength)
+statsAsked s t p = statsReading (s .form) (t .G) (t .D) (p .nodes) (p .children) (layerOf (p .floor)) (s .listed) (s .sequenceLength)

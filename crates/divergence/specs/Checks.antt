@@ -12,5 +12,5 @@ abbrev pub orElse : ℕ → ℕ → ℕ
 orElse zero m = m
 orElse (suc n) m = suc n
 
-abbrev pub checksRefusal : Tracker → List ℕ → List ℕ → List ℕ → List ℕ → List Float → List Float → ℕ
-checksRefusal t book queue nodes children G D = orElse (tablesRefusal G D) (orElse (priorsRefusal nodes children) (formRefusal t book queue))
+abbrev pub checksRefusal : Tracker → List ℕ → List ℕ → List ℕ → List ℕ → ℕ → List Float → List Float → ℕ
+checksRefusal t book queue nodes children layer G D = orElse (tablesRefusal G D) (orElse (priorsRefusal nodes children layer) (formRefusal t book queue))

@@ -12,7 +12,7 @@ use lib.IntN.{pos}
 use lib.Ieee.{Float, fin, binary64, round, lt}
 use Rattle.priors.specs.Rows.{Row, choose}
 use Rattle.priors.specs.Tables.{LentTables, tableAt}
-use Rattle.priors.specs.Priors.{LentPriors, Counts, priorOf}
+use Rattle.priors.specs.Priors.{LentPriors, layerOf, Counts, priorOf}
 use Rattle.book.specs.declared.trackers.Tracker.{Tracker}
 use Rattle.book.specs.Figures.{All}
 use Rattle.divergence.specs.declared.sums.Sums.{Sums}
@@ -217,7 +217,7 @@ GokoGivesTheSame =
     → (lnGamma digamma : Float → Float) → Tabled lnGamma (tables .G) → Tabled digamma (tables .D)
     → (rank : ℕ) (o : Output)
     → let s = seenOf t book queue in
-    let prior = priorOf (priors .nodes) (priors .children) in
+    let prior = priorOf (priors .nodes) (priors .children) (layerOf (priors .floor)) in
     let evidence = evidenceOf rank (s .listed) in
     let one = gokoNodeKl lnGamma digamma (prior rank) evidence in
     let list = gokoAllKl lnGamma digamma prior (s .listed) in

@@ -1,5 +1,5 @@
 -- What each reading answers, and what the lent outputs hold afterwards. The checks come in the order of their numbers: tables, priors, the tracker's form, then the
--- reading itself on a list of nodes. `form` is 9 where the tracker's form is broken, else 0. Assumes nothing.
+-- reading itself on a list of nodes. `form` is 9 where the tracker's form is broken, else 0; `layer` is the number of scales below the floor. Assumes nothing.
 use Prim.Native.Nat.{ℕ, zero, suc, _+_, _*_, _/_, min}
 use mathlib.Core.Bool.{cond}
 use mathlib.Core.List.{List, [], _∷_, _++_, map, flatMap}
@@ -83,9 +83,9 @@ vectorReading have none = nothing
 vectorReading have (some c) = fitting (length (c .children)) have (answered c)
 
 -- on a list of nodes
-unfoldable pub probReading : ℕ → List ℕ → List ℕ → List Node → ℕ → ℕ → Reading Counts
-probReading form nodes children ns rank have =
-    unless (priorsRefusal nodes children) (unless form (vectorReading have (probVector (priorOf nodes children rank) (evidenceOf rank ns))))
+unfoldable pub probReading : ℕ → List ℕ → List ℕ → ℕ → List Node → ℕ → ℕ → Reading Counts
+probReading form nodes children layer ns rank have =
+    unless (priorsRefusal nodes children layer) (unless form (vectorReading have (probVector (priorOf nodes children layer rank) (evidenceOf rank ns))))
 
 unfoldable pub evidenceReading : ℕ → List Node → ℕ → ℕ → Reading Counts
 evidenceReading form ns rank have = unless form (vectorReading have (evidenceProbVector (evidenceOf rank ns)))
@@ -105,13 +105,13 @@ divergenceReading rank NoPrior = nothing
 divergenceReading rank MissingChild = refused 14 (some (addressOf rank))
 divergenceReading rank PastTable = refused 15 (some (addressOf rank))
 
-abbrev pub ofListed : List Float → List Float → List ℕ → List ℕ → ℕ → Option Counts → Reading Float
-ofListed G D nodes children rank none = nothing
-ofListed G D nodes children rank (some e) = divergenceReading rank (nodeDivergence G D (priorOf nodes children rank) e)
+abbrev pub ofListed : List Float → List Float → List ℕ → List ℕ → ℕ → ℕ → Option Counts → Reading Float
+ofListed G D nodes children layer rank none = nothing
+ofListed G D nodes children layer rank (some e) = divergenceReading rank (nodeDivergence G D (priorOf nodes children layer rank) e)
 
-unfoldable pub klReading : ℕ → List Float → List Float → List ℕ → List ℕ → List Node → ℕ → Reading Float
-klReading form G D nodes children ns rank =
-    unless (tablesRefusal G D) (unless (priorsRefusal nodes children) (unless form (ofListed G D nodes children rank (evidenceOf rank ns))))
+unfoldable pub klReading : ℕ → List Float → List Float → List ℕ → List ℕ → ℕ → List Node → ℕ → Reading Float
+klReading form G D nodes children layer ns rank =
+    unless (tablesRefusal G D) (unless (priorsRefusal nodes children layer) (unless form (ofListed G D nodes children layer rank (evidenceOf rank ns))))
 
 -- ---- `all_node_kl`: places for the nodes that have a prior, and the number skipped
 
@@ -124,21 +124,21 @@ hasPrior none = 0
 hasPrior (some p) = 1
 
 -- how many listed nodes have a prior: the size of the answer, also where 14 or 15 would end it
-unfoldable pub withPrior : List ℕ → List ℕ → List Node → ℕ
-withPrior nodes children [] = 0
-withPrior nodes children (n ∷ ns) = hasPrior (priorOf nodes children (n .address)) + withPrior nodes children ns
+unfoldable pub withPrior : List ℕ → List ℕ → ℕ → List Node → ℕ
+withPrior nodes children layer [] = 0
+withPrior nodes children layer (n ∷ ns) = hasPrior (priorOf nodes children layer (n .address)) + withPrior nodes children layer ns
 
 abbrev pub walkReading : Walk → Reading Divergences
 walkReading (stopped n node) = refused n (some (addressOf node))
 walkReading (walked ps k) = answered (record { places = ps; skipped = k })
 
 -- the reading past the checks before it
-abbrev pub allListed : List Float → List Float → List ℕ → List ℕ → List Node → ℕ → Reading Divergences
-allListed G D nodes children ns have = fitting (withPrior nodes children ns) have (walkReading (walk G D nodes children ns))
+abbrev pub allListed : List Float → List Float → List ℕ → List ℕ → ℕ → List Node → ℕ → Reading Divergences
+allListed G D nodes children layer ns have = fitting (withPrior nodes children layer ns) have (walkReading (walk G D nodes children layer ns))
 
-unfoldable pub allReading : ℕ → List Float → List Float → List ℕ → List ℕ → List Node → ℕ → Reading Divergences
-allReading form G D nodes children ns have =
-    unless (tablesRefusal G D) (unless (priorsRefusal nodes children) (unless form (allListed G D nodes children ns have)))
+unfoldable pub allReading : ℕ → List Float → List Float → List ℕ → List ℕ → ℕ → List Node → ℕ → Reading Divergences
+allReading form G D nodes children layer ns have =
+    unless (tablesRefusal G D) (unless (priorsRefusal nodes children layer) (unless form (allListed G D nodes children layer ns have)))
 
 -- the nodes of places, and their divergences
 abbrev pub ranksOf : List Place → List ℕ
@@ -164,7 +164,7 @@ abbrev pub statsReadingOf : ℕ → Walk → Reading Statistics
 statsReadingOf sequenceLength (stopped n node) = refused n (some (addressOf node))
 statsReadingOf sequenceLength (walked ps k) = answered (record { stats = statsOver (noStats sequenceLength) ps; skipped = k })
 
-unfoldable pub statsReading : ℕ → List Float → List Float → List ℕ → List ℕ → List Node → ℕ → Reading Statistics
-statsReading form G D nodes children ns sequenceLength =
+unfoldable pub statsReading : ℕ → List Float → List Float → List ℕ → List ℕ → ℕ → List Node → ℕ → Reading Statistics
+statsReading form G D nodes children layer ns sequenceLength =
     unless (tablesRefusal G D)
-    (unless (priorsRefusal nodes children) (unless form (statsReadingOf sequenceLength (walk G D nodes children ns))))
+    (unless (priorsRefusal nodes children layer) (unless form (statsReadingOf sequenceLength (walk G D nodes children layer ns))))

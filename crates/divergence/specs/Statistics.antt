@@ -36,10 +36,10 @@ visited node NoPrior rest = skipping rest
 visited node MissingChild rest = stopped 14 node
 visited node PastTable rest = stopped 15 node
 
-unfoldable pub walk : List Float → List Float → List ℕ → List ℕ → List Node → Walk
-walk G D nodes children [] = walked [] 0
-walk G D nodes children (n ∷ ns) =
-    visited (n .address) (nodeDivergence G D (priorOf nodes children (n .address)) (n .evidence)) (walk G D nodes children ns)
+unfoldable pub walk : List Float → List Float → List ℕ → List ℕ → ℕ → List Node → Walk
+walk G D nodes children layer [] = walked [] 0
+walk G D nodes children layer (n ∷ ns) =
+    visited (n .address) (nodeDivergence G D (priorOf nodes children layer (n .address)) (n .evidence)) (walk G D nodes children layer ns)
 
 -- ---- the statistics
 

@@ -123,14 +123,22 @@ fn child_terms(
 
 // What the node whose ending stands at the place i is tested for: a prior record, every child in its chain, and a total within
 // tables of this size.
-pub fn fit(book: &[u8], i: usize, to: usize, nodes: &[u8], children: &[u8], size: usize) -> NodeFit
+pub fn fit(
+    book: &[u8],
+    i: usize,
+    to: usize,
+    nodes: &[u8],
+    children: &[u8],
+    layer: u32,
+    size: usize,
+) -> NodeFit
     requires { ⌜ i < to ⌝ }
     requires { ⌜ to ≤ maxEntries ⌝ }
     requires { ⌜ 24 * to ≤ length (now book) ⌝ }
-    requires { ⌜ priorsRefusal (now nodes) (now children) ≡ 0 ⌝ }
-    ensures { λ r. ⌜ r ≡ fitOf (now (children .entry)) size (findRecord (nodeAt (now (book .entry)) i) (records (now (nodes .entry)))) (evidenceAt (now (book .entry)) i to) ⌝ }
+    requires { ⌜ priorsRefusal (now nodes) (now children) layer ≡ 0 ⌝ }
+    ensures { λ r. ⌜ r ≡ fitOf (now (children .entry)) size (findRecord layer (nodeAt (now (book .entry)) i) (records (now (nodes .entry)))) (evidenceAt (now (book .entry)) i to) ⌝ }
 {
-    match find_node(nodes, rank_at(book, ENTRY_SIZE * i)) {
+    match find_node(nodes, layer, rank_at(book, ENTRY_SIZE * i)) {
         NodeFound::NoNode => NodeFit::NoRecord,
         NodeFound::Node(node) => {
             if lacks_child(book, i + 1, to, children, node.link) {
@@ -182,17 +190,18 @@ pub fn node_divergence(
     to: usize,
     nodes: &[u8],
     children: &[u8],
+    layer: u32,
     g: &[f64],
     d: &[f64],
 ) -> NodeDivergence
     requires { ⌜ i < to ⌝ }
     requires { ⌜ to ≤ maxEntries ⌝ }
     requires { ⌜ 24 * to ≤ length (now book) ⌝ }
-    requires { ⌜ priorsRefusal (now nodes) (now children) ≡ 0 ⌝ }
+    requires { ⌜ priorsRefusal (now nodes) (now children) layer ≡ 0 ⌝ }
     requires { ⌜ tablesRefusal (now g) (now d) ≡ 0 ⌝ }
-    ensures { λ r. ⌜ r ≡ nodeDivergence (now (g .entry)) (now (d .entry)) (priorOf (now (nodes .entry)) (now (children .entry)) (nodeAt (now (book .entry)) i)) (evidenceAt (now (book .entry)) i to) ⌝ }
+    ensures { λ r. ⌜ r ≡ nodeDivergence (now (g .entry)) (now (d .entry)) (priorOf (now (nodes .entry)) (now (children .entry)) layer (nodeAt (now (book .entry)) i)) (evidenceAt (now (book .entry)) i to) ⌝ }
 {
-    match fit(book, i, to, nodes, children, g.len()) {
+    match fit(book, i, to, nodes, children, layer, g.len()) {
         NodeFit::Fits(node, t, u) => NodeDivergence::Value(divergence_of(
             book,
             i,

@@ -7,7 +7,7 @@ ghost use Prim.Native.Nat.{ℕ, _+_, _*_, _^_, _<_, _≤_};
 ghost use lib.ListN.{length};
 ghost use lib.Ieee.{Float};
 ghost use Rattle.priors.specs.Tables.{tablesRefusal};
-ghost use Rattle.priors.specs.Priors.{records, ascends, priorOf, priorsRefusal};
+ghost use Rattle.priors.specs.Priors.{records, ascends, pointsDiffer, priorOf, priorsRefusal};
 ghost use Rattle.priors.specs.declared.refusals.Checked.the-variants.{Passed};
 ghost use Rattle.book.specs.Limits.{maxEntries};
 ghost use Rattle.divergence.specs.Parts.{nodesFrom};
@@ -36,29 +36,31 @@ pub struct Filling {
 }
 
 // 1 if the address has a prior.
-fn has_prior(nodes: &[u8], rank: u64) -> usize
+fn has_prior(nodes: &[u8], layer: u32, rank: u64) -> usize
     requires { ⌜ ascends (records (now nodes)) ≡ true ⌝ }
-    ensures { λ r. ⌜ ((children : List ℕ) → r ≡ hasPrior (priorOf (now (nodes .entry)) children rank)) ⌝ }
+    requires { ⌜ pointsDiffer (now nodes) layer ≡ true ⌝ }
+    ensures { λ r. ⌜ ((children : List ℕ) → r ≡ hasPrior (priorOf (now (nodes .entry)) children layer rank)) ⌝ }
 {
-    match find_node(nodes, rank) {
+    match find_node(nodes, layer, rank) {
         NodeFound::Node(_) => 1,
         NodeFound::NoNode => 0,
     }
 }
 
 // How many listed nodes have a prior.
-pub fn with_prior(book: &[u8], used: usize, nodes: &[u8]) -> usize
+pub fn with_prior(book: &[u8], used: usize, nodes: &[u8], layer: u32) -> usize
     requires { ⌜ used ≤ maxEntries ⌝ }
     requires { ⌜ 24 * used ≤ length (now book) ⌝ }
     requires { ⌜ ascends (records (now nodes)) ≡ true ⌝ }
-    ensures { λ r. ⌜ ((children : List ℕ) → r ≡ withPrior (now (nodes .entry)) children (nodesFrom (now (book .entry)) 0 used)) ⌝ }
+    requires { ⌜ pointsDiffer (now nodes) layer ≡ true ⌝ }
+    ensures { λ r. ⌜ ((children : List ℕ) → r ≡ withPrior (now (nodes .entry)) children layer (nodesFrom (now (book .entry)) 0 used)) ⌝ }
     ensures { λ r. ⌜ r ≤ used ⌝ }
 {
     let mut n = 0;
     let mut i = children_end(book, used, 0);
     while i < used {
         let to = children_end(book, used, i + 1);
-        n += has_prior(nodes, rank_at(book, ENTRY_SIZE * i));
+        n += has_prior(nodes, layer, rank_at(book, ENTRY_SIZE * i));
         i = to;
     }
     n
@@ -83,16 +85,23 @@ fn stop_at(node: u64, f: NodeFit) -> Checked
 }
 
 // The first listed node that is refused, by tables of this size; no figure is worked out.
-pub fn first_stop(book: &[u8], used: usize, nodes: &[u8], children: &[u8], size: usize) -> Checked
+pub fn first_stop(
+    book: &[u8],
+    used: usize,
+    nodes: &[u8],
+    children: &[u8],
+    layer: u32,
+    size: usize,
+) -> Checked
     requires { ⌜ used ≤ maxEntries ⌝ }
     requires { ⌜ 24 * used ≤ length (now book) ⌝ }
-    requires { ⌜ priorsRefusal (now nodes) (now children) ≡ 0 ⌝ }
-    ensures { λ r. ⌜ ((G D : List Float) → length G ≡ size → r ≡ stopOf (walk G D (now (nodes .entry)) (now (children .entry)) (nodesFrom (now (book .entry)) 0 used))) ⌝ }
+    requires { ⌜ priorsRefusal (now nodes) (now children) layer ≡ 0 ⌝ }
+    ensures { λ r. ⌜ ((G D : List Float) → length G ≡ size → r ≡ stopOf (walk G D (now (nodes .entry)) (now (children .entry)) layer (nodesFrom (now (book .entry)) 0 used))) ⌝ }
 {
     let mut i = children_end(book, used, 0);
     while i < used {
         let to = children_end(book, used, i + 1);
-        let f = fit(book, i, to, nodes, children, size);
+        let f = fit(book, i, to, nodes, children, layer, size);
         match stop_at(rank_at(book, ENTRY_SIZE * i), f) {
             Checked::Passed => {
                 i = to;
@@ -143,6 +152,7 @@ pub fn fill_all(
     used: usize,
     nodes: &[u8],
     children: &[u8],
+    layer: u32,
     g: &[f64],
     d: &[f64],
     addresses: &mut [u8],
@@ -150,14 +160,14 @@ pub fn fill_all(
 ) -> u32
     requires { ⌜ used ≤ maxEntries ⌝ }
     requires { ⌜ 24 * used ≤ length (now book) ⌝ }
-    requires { ⌜ priorsRefusal (now nodes) (now children) ≡ 0 ⌝ }
+    requires { ⌜ priorsRefusal (now nodes) (now children) layer ≡ 0 ⌝ }
     requires { ⌜ tablesRefusal (now g) (now d) ≡ 0 ⌝ }
-    requires { ⌜ stopOf (walk (now g) (now d) (now nodes) (now children) (nodesFrom (now book) 0 used)) ≡ Passed ⌝ }
-    requires { ⌜ 8 * length (placesOf (walk (now g) (now d) (now nodes) (now children) (nodesFrom (now book) 0 used))) ≤ length (now addresses) ⌝ }
-    requires { ⌜ length (placesOf (walk (now g) (now d) (now nodes) (now children) (nodesFrom (now book) 0 used))) ≤ length (now figures) ⌝ }
-    ensures { λ r. ⌜ r ≡ skippedOf (walk (now (g .entry)) (now (d .entry)) (now (nodes .entry)) (now (children .entry)) (nodesFrom (now (book .entry)) 0 used)) ⌝ }
-    ensures { λ r. ⌜ now (addresses .exit) ≡ filledAddresses (ranksOf (placesOf (walk (now (g .entry)) (now (d .entry)) (now (nodes .entry)) (now (children .entry)) (nodesFrom (now (book .entry)) 0 used)))) (now (addresses .entry)) ⌝ }
-    ensures { λ r. ⌜ now (figures .exit) ≡ filledFigures (valuesOf (placesOf (walk (now (g .entry)) (now (d .entry)) (now (nodes .entry)) (now (children .entry)) (nodesFrom (now (book .entry)) 0 used)))) (now (figures .entry)) ⌝ }
+    requires { ⌜ stopOf (walk (now g) (now d) (now nodes) (now children) layer (nodesFrom (now book) 0 used)) ≡ Passed ⌝ }
+    requires { ⌜ 8 * length (placesOf (walk (now g) (now d) (now nodes) (now children) layer (nodesFrom (now book) 0 used))) ≤ length (now addresses) ⌝ }
+    requires { ⌜ length (placesOf (walk (now g) (now d) (now nodes) (now children) layer (nodesFrom (now book) 0 used))) ≤ length (now figures) ⌝ }
+    ensures { λ r. ⌜ r ≡ skippedOf (walk (now (g .entry)) (now (d .entry)) (now (nodes .entry)) (now (children .entry)) layer (nodesFrom (now (book .entry)) 0 used)) ⌝ }
+    ensures { λ r. ⌜ now (addresses .exit) ≡ filledAddresses (ranksOf (placesOf (walk (now (g .entry)) (now (d .entry)) (now (nodes .entry)) (now (children .entry)) layer (nodesFrom (now (book .entry)) 0 used)))) (now (addresses .entry)) ⌝ }
+    ensures { λ r. ⌜ now (figures .exit) ≡ filledFigures (valuesOf (placesOf (walk (now (g .entry)) (now (d .entry)) (now (nodes .entry)) (now (children .entry)) layer (nodesFrom (now (book .entry)) 0 used)))) (now (figures .entry)) ⌝ }
 {
     let mut filling = Filling {
         places: 0,
@@ -166,7 +176,7 @@ pub fn fill_all(
     let mut i = children_end(book, used, 0);
     while i < used {
         let to = children_end(book, used, i + 1);
-        let x = node_divergence(book, i, to, nodes, children, g, d);
+        let x = node_divergence(book, i, to, nodes, children, layer, g, d);
         filling = put(
             filling,
             rank_at(book, ENTRY_SIZE * i),

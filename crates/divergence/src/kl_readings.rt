@@ -31,6 +31,7 @@ use crate::statistics::stats_of;
 use book::form::in_form;
 use book::trackers::Tracker;
 use priors::addresses::address_of;
+use priors::addresses::layer_of;
 use priors::addresses::rank_of;
 use priors::checks::check_priors;
 use priors::refusals::Checked;
@@ -46,14 +47,15 @@ fn tested(
     queue: &[u8],
     nodes: &[u8],
     children: &[u8],
+    layer: u32,
     g: &[f64],
     d: &[f64],
 ) -> Checked
-    ensures { λ r. ⌜ checkedNumber r ≡ checksRefusal t (now (book .entry)) (now (queue .entry)) (now (nodes .entry)) (now (children .entry)) (now (g .entry)) (now (d .entry)) ⌝ }
+    ensures { λ r. ⌜ checkedNumber r ≡ checksRefusal t (now (book .entry)) (now (queue .entry)) (now (nodes .entry)) (now (children .entry)) layer (now (g .entry)) (now (d .entry)) ⌝ }
 {
     match check_tables(g, d) {
         Checked::Refused(r) => Checked::Refused(r),
-        Checked::Passed => match check_priors(nodes, children) {
+        Checked::Passed => match check_priors(nodes, children, layer) {
             Checked::Refused(r) => Checked::Refused(r),
             Checked::Passed => {
                 if in_form(t, book, queue) {
@@ -89,6 +91,7 @@ fn listed_kl(
     used: usize,
     nodes: &[u8],
     children: &[u8],
+    layer: u32,
     g: &[f64],
     d: &[f64],
     rank: u64,
@@ -96,12 +99,15 @@ fn listed_kl(
     requires { ⌜ used ≤ maxEntries ⌝ }
     requires { ⌜ 24 * used ≤ length (now book) ⌝ }
     requires { ⌜ formed (rows (now book) used) ≡ true ⌝ }
-    requires { ⌜ priorsRefusal (now nodes) (now children) ≡ 0 ⌝ }
+    requires { ⌜ priorsRefusal (now nodes) (now children) layer ≡ 0 ⌝ }
     requires { ⌜ tablesRefusal (now g) (now d) ≡ 0 ⌝ }
-    ensures { λ r. ⌜ klAnswer r ≡ ofListed (now (g .entry)) (now (d .entry)) (now (nodes .entry)) (now (children .entry)) rank (evidenceOf rank (listedNodes (rows (now (book .entry)) used))) ⌝ }
+    ensures { λ r. ⌜ klAnswer r ≡ ofListed (now (g .entry)) (now (d .entry)) (now (nodes .entry)) (now (children .entry)) layer rank (evidenceOf rank (listedNodes (rows (now (book .entry)) used))) ⌝ }
 {
     match find_listed(book, used, rank) {
-        Listed::Entries(i, to) => answer(rank, node_divergence(book, i, to, nodes, children, g, d)),
+        Listed::Entries(i, to) => answer(
+            rank,
+            node_divergence(book, i, to, nodes, children, layer, g, d),
+        ),
         Listed::Unlisted => NodeKl::NoKl,
     }
 }
@@ -113,20 +119,23 @@ pub fn posterior_kl_divergence(
     queue: &[u8],
     nodes: &[u8],
     children: &[u8],
+    floor: i32,
     g: &[f64],
     d: &[f64],
     scale: i32,
     point: u32,
 ) -> NodeKl
-    ensures { λ r. ⌜ klAnswer r ≡ klAsked (seenOf t (now (book .entry)) (now (queue .entry))) (lentTables (now (g .entry)) (now (d .entry))) (lentPriors (now (nodes .entry)) (now (children .entry))) (rankOf scale point) ⌝ }
+    ensures { λ r. ⌜ klAnswer r ≡ klAsked (seenOf t (now (book .entry)) (now (queue .entry))) (lentTables (now (g .entry)) (now (d .entry))) (lentPriors (now (nodes .entry)) (now (children .entry)) floor) (rankOf scale point) ⌝ }
 {
-    match tested(t, book, queue, nodes, children, g, d) {
+    let layer = layer_of(floor);
+    match tested(t, book, queue, nodes, children, layer, g, d) {
         Checked::Refused(r) => NodeKl::KlRefused(r),
         Checked::Passed => listed_kl(
             book,
             t.used as usize,
             nodes,
             children,
+            layer,
             g,
             d,
             rank_of(scale, point),
@@ -140,6 +149,7 @@ fn all_listed(
     used: usize,
     nodes: &[u8],
     children: &[u8],
+    layer: u32,
     g: &[f64],
     d: &[f64],
     addresses: &mut [u8],
@@ -147,23 +157,23 @@ fn all_listed(
 ) -> AllNodeKl
     requires { ⌜ used ≤ maxEntries ⌝ }
     requires { ⌜ 24 * used ≤ length (now book) ⌝ }
-    requires { ⌜ priorsRefusal (now nodes) (now children) ≡ 0 ⌝ }
+    requires { ⌜ priorsRefusal (now nodes) (now children) layer ≡ 0 ⌝ }
     requires { ⌜ tablesRefusal (now g) (now d) ≡ 0 ⌝ }
-    ensures { λ r. ⌜ allAnswer r ≡ allResult (allListed (now (g .entry)) (now (d .entry)) (now (nodes .entry)) (now (children .entry)) (nodesFrom (now (book .entry)) 0 used) (room (now (addresses .entry)) (now (figures .entry)))) ⌝ }
-    ensures { λ r. ⌜ now (addresses .exit) ≡ allAddresses (allListed (now (g .entry)) (now (d .entry)) (now (nodes .entry)) (now (children .entry)) (nodesFrom (now (book .entry)) 0 used) (room (now (addresses .entry)) (now (figures .entry)))) (now (addresses .entry)) ⌝ }
-    ensures { λ r. ⌜ now (figures .exit) ≡ allFigures (allListed (now (g .entry)) (now (d .entry)) (now (nodes .entry)) (now (children .entry)) (nodesFrom (now (book .entry)) 0 used) (room (now (addresses .entry)) (now (figures .entry)))) (now (figures .entry)) ⌝ }
+    ensures { λ r. ⌜ allAnswer r ≡ allResult (allListed (now (g .entry)) (now (d .entry)) (now (nodes .entry)) (now (children .entry)) layer (nodesFrom (now (book .entry)) 0 used) (room (now (addresses .entry)) (now (figures .entry)))) ⌝ }
+    ensures { λ r. ⌜ now (addresses .exit) ≡ allAddresses (allListed (now (g .entry)) (now (d .entry)) (now (nodes .entry)) (now (children .entry)) layer (nodesFrom (now (book .entry)) 0 used) (room (now (addresses .entry)) (now (figures .entry)))) (now (addresses .entry)) ⌝ }
+    ensures { λ r. ⌜ now (figures .exit) ≡ allFigures (allListed (now (g .entry)) (now (d .entry)) (now (nodes .entry)) (now (children .entry)) layer (nodesFrom (now (book .entry)) 0 used) (room (now (addresses .entry)) (now (figures .entry)))) (now (figures .entry)) ⌝ }
 {
-    let places = with_prior(book, used, nodes);
+    let places = with_prior(book, used, nodes, layer);
     if addresses.len() / 8 < places {
         return AllNodeKl::AllRefused(Refusal::Plain(Reason::OutputShort));
     }
     if figures.len() < places {
         return AllNodeKl::AllRefused(Refusal::Plain(Reason::OutputShort));
     }
-    match first_stop(book, used, nodes, children, g.len()) {
+    match first_stop(book, used, nodes, children, layer, g.len()) {
         Checked::Refused(r) => AllNodeKl::AllRefused(r),
         Checked::Passed => {
-            let skipped = fill_all(book, used, nodes, children, g, d, addresses, figures);
+            let skipped = fill_all(book, used, nodes, children, layer, g, d, addresses, figures);
             let filled = places as u32;
             AllNodeKl::AllKl(filled, skipped)
         }
@@ -177,20 +187,23 @@ pub fn all_node_kl(
     queue: &[u8],
     nodes: &[u8],
     children: &[u8],
+    floor: i32,
     g: &[f64],
     d: &[f64],
     addresses: &mut [u8],
     figures: &mut [f64],
 ) -> AllNodeKl
-    ensures { λ r. ⌜ allTold r (now (addresses .exit)) (now (figures .exit)) ≡ allAsked (seenOf t (now (book .entry)) (now (queue .entry))) (lentTables (now (g .entry)) (now (d .entry))) (lentPriors (now (nodes .entry)) (now (children .entry))) (lentOutput (now (addresses .entry)) (now (figures .entry))) ⌝ }
+    ensures { λ r. ⌜ allTold r (now (addresses .exit)) (now (figures .exit)) ≡ allAsked (seenOf t (now (book .entry)) (now (queue .entry))) (lentTables (now (g .entry)) (now (d .entry))) (lentPriors (now (nodes .entry)) (now (children .entry)) floor) (lentOutput (now (addresses .entry)) (now (figures .entry))) ⌝ }
 {
-    match tested(t, book, queue, nodes, children, g, d) {
+    let layer = layer_of(floor);
+    match tested(t, book, queue, nodes, children, layer, g, d) {
         Checked::Refused(r) => AllNodeKl::AllRefused(r),
         Checked::Passed => all_listed(
             book,
             t.used as usize,
             nodes,
             children,
+            layer,
             g,
             d,
             addresses,
@@ -206,18 +219,21 @@ pub fn kl_div_stats(
     queue: &[u8],
     nodes: &[u8],
     children: &[u8],
+    floor: i32,
     g: &[f64],
     d: &[f64],
 ) -> KlDivStats
-    ensures { λ r. ⌜ statsAnswer r ≡ statsAsked (seenOf t (now (book .entry)) (now (queue .entry))) (lentTables (now (g .entry)) (now (d .entry))) (lentPriors (now (nodes .entry)) (now (children .entry))) ⌝ }
+    ensures { λ r. ⌜ statsAnswer r ≡ statsAsked (seenOf t (now (book .entry)) (now (queue .entry))) (lentTables (now (g .entry)) (now (d .entry))) (lentPriors (now (nodes .entry)) (now (children .entry)) floor) ⌝ }
 {
-    match tested(t, book, queue, nodes, children, g, d) {
+    let layer = layer_of(floor);
+    match tested(t, book, queue, nodes, children, layer, g, d) {
         Checked::Refused(r) => KlDivStats::StatsRefused(r),
         Checked::Passed => stats_of(
             book,
             t.used as usize,
             nodes,
             children,
+            layer,
             g,
             d,
             t.sequence_len(),

@@ -132,15 +132,16 @@ pub fn stats_of(
     used: usize,
     nodes: &[u8],
     children: &[u8],
+    layer: u32,
     g: &[f64],
     d: &[f64],
     sequence_len: u32,
 ) -> KlDivStats
     requires { ⌜ used ≤ maxEntries ⌝ }
     requires { ⌜ 24 * used ≤ length (now book) ⌝ }
-    requires { ⌜ priorsRefusal (now nodes) (now children) ≡ 0 ⌝ }
+    requires { ⌜ priorsRefusal (now nodes) (now children) layer ≡ 0 ⌝ }
     requires { ⌜ tablesRefusal (now g) (now d) ≡ 0 ⌝ }
-    ensures { λ r. ⌜ statsAnswer r ≡ statsReadingOf «sequence_len» (walk (now (g .entry)) (now (d .entry)) (now (nodes .entry)) (now (children .entry)) (nodesFrom (now (book .entry)) 0 used)) ⌝ }
+    ensures { λ r. ⌜ statsAnswer r ≡ statsReadingOf «sequence_len» (walk (now (g .entry)) (now (d .entry)) (now (nodes .entry)) (now (children .entry)) layer (nodesFrom (now (book .entry)) 0 used)) ⌝ }
 {
     let mut tally = Tally {
         stats: no_stats(sequence_len),
@@ -149,7 +150,7 @@ pub fn stats_of(
     let mut i = children_end(book, used, 0);
     while i < used {
         let to = children_end(book, used, i + 1);
-        let x = node_divergence(book, i, to, nodes, children, g, d);
+        let x = node_divergence(book, i, to, nodes, children, layer, g, d);
         match one_more(tally, rank_at(book, ENTRY_SIZE * i), x) {
             Tallied::On(next) => {
                 tally = next;

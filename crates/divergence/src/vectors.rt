@@ -28,6 +28,7 @@ use crate::probabilities::merged_size;
 use book::form::in_form;
 use book::limits::ENTRY_SIZE;
 use book::trackers::Tracker;
+use priors::addresses::layer_of;
 use priors::addresses::rank_of;
 use priors::checks::check_priors;
 use priors::lookups::NodeFound;
@@ -134,21 +135,23 @@ pub fn prob_vector(
     queue: &[u8],
     nodes: &[u8],
     children: &[u8],
+    floor: i32,
     scale: i32,
     point: u32,
     addresses: &mut [u8],
     figures: &mut [f64],
 ) -> ProbVector
-    ensures { λ r. ⌜ vectorTold r (now (addresses .exit)) (now (figures .exit)) ≡ probAsked (seenOf t (now (book .entry)) (now (queue .entry))) (lentPriors (now (nodes .entry)) (now (children .entry))) (rankOf scale point) (lentOutput (now (addresses .entry)) (now (figures .entry))) ⌝ }
+    ensures { λ r. ⌜ vectorTold r (now (addresses .exit)) (now (figures .exit)) ≡ probAsked (seenOf t (now (book .entry)) (now (queue .entry))) (lentPriors (now (nodes .entry)) (now (children .entry)) floor) (rankOf scale point) (lentOutput (now (addresses .entry)) (now (figures .entry))) ⌝ }
 {
-    match check_priors(nodes, children) {
+    let layer = layer_of(floor);
+    match check_priors(nodes, children, layer) {
         Checked::Refused(r) => ProbVector::VectorRefused(r),
         Checked::Passed => {
             if !in_form(t, book, queue) {
                 return ProbVector::VectorRefused(Refusal::Plain(Reason::Form));
             }
             let rank = rank_of(scale, point);
-            match find_node(nodes, rank) {
+            match find_node(nodes, layer, rank) {
                 NodeFound::Node(prior) => posterior_vector(
                     prior,
                     children,

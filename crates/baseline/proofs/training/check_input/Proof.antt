@@ -1,9 +1,12 @@
 -- Tables, priors and then the sizes.
 -- Assumes nothing.
 use mathlib.Core.Path.{_≡_, refl, sym, ap, _∙_}
+use native.Mathlib.Omega.{arith}
 use Rattle.priors.specs.Refusals.{numberOf, checkedNumber}
 use Rattle.priors.specs.Tables.{tablesRefusal}
-use Rattle.priors.specs.Priors.{priorsRefusal}
+use Rattle.priors.specs.Priors.{layerOf, priorsRefusal}
+use Rattle.priors.specs.Layer.{floorOf}
+use Rattle.priors.proofs.LayerLaws.{layer-back}
 use Rattle.priors.proofs.RuleLaws.{namesNone, tables-keep, priors-keep, unnamed}
 use Rattle.baseline.proofs.InputLaws.{tables-first, priors-second, sizes-third}
 use borrow.Author.Needs.{needs}
@@ -46,8 +49,9 @@ returns-2 c =
     let t = p .before .before .before in
     let st = t .before .before .before .before .before .before .before .before .before in
     let passed : tablesRefusal (st .args .g .now) (st .args .d .now) ≡ 0 = sym (t .check-tables .ensures) ∙ ap checkedNumber (p .before .enum-told .given .1) in
-    let e : numberOf (a .r2 .given .0 .0) ≡ priorsRefusal (st .args .nodes .now) (st .args .children .now) = ap checkedNumber (sym (a .r2 .given .1)) ∙ p .check-priors .ensures in
-    (priors-second _ _ _ _ passed (a .r2 .given .0 .0) e, unnamed (a .r2 .given .0 .0) (ap namesNone e ∙ priors-keep namesNone (st .args .nodes .now) (st .args .children .now) refl refl))
+    let back : layerOf (floorOf (st .args .layer)) ≡ st .args .layer = layer-back (st .args .layer) (omega arith) in
+    let e : numberOf (a .r2 .given .0 .0) ≡ priorsRefusal (st .args .nodes .now) (st .args .children .now) (st .args .layer) = ap checkedNumber (sym (a .r2 .given .1)) ∙ p .check-priors .ensures in
+    (priors-second _ _ _ _ passed (a .r2 .given .0 .0) (e ∙ ap (priorsRefusal (st .args .nodes .now) (st .args .children .now)) (sym back)), unnamed (a .r2 .given .0 .0) (ap namesNone e ∙ priors-keep namesNone (st .args .nodes .now) (st .args .children .now) (st .args .layer) refl refl))
 
 returns-3 : tie.Need-returns-3
 returns-3 c =
@@ -55,7 +59,8 @@ returns-3 c =
     let t = p .before .before .before in
     let st = t .before .before .before .before .before .before .before .before .before in
     let passed : tablesRefusal (st .args .g .now) (st .args .d .now) ≡ 0 = sym (t .check-tables .ensures) ∙ ap checkedNumber (p .before .enum-told .given .1) in
-    let passed-too : priorsRefusal (st .args .nodes .now) (st .args .children .now) ≡ 0 = sym (p .check-priors .ensures) ∙ ap checkedNumber (c .before .enum-told2 .given .1) in
+    let back : layerOf (floorOf (st .args .layer)) ≡ st .args .layer = layer-back (st .args .layer) (omega arith) in
+    let passed-too : priorsRefusal (st .args .nodes .now) (st .args .children .now) (layerOf (floorOf (st .args .layer))) ≡ 0 = ap (priorsRefusal (st .args .nodes .now) (st .args .children .now)) back ∙ sym (p .check-priors .ensures) ∙ ap checkedNumber (c .before .enum-told2 .given .1) in
     (c .check-sizes .ensures .0 ∙ sizes-third _ _ _ _ passed passed-too, c .check-sizes .ensures .1)
 
 pub check-input-spec : {M : Type 1} → statement M

@@ -9,6 +9,7 @@ use lib.ListN.{length}
 use Rattle.priors.specs.declared.refusals.Checked.{Checked}
 use Rattle.priors.specs.Refusals.{numberOf, namedNode}
 use Rattle.book.specs.Claims.{restarted}
+use Rattle.priors.specs.Layer.{floorOf}
 use Rattle.baseline.specs.Training.{inputOf, recordsFrom, sequenceRecords}
 use Rattle.baseline.specs.Courses.{entered, ended}
 use Rattle.baseline.proofs.CourseLaws.{allLeft, every-sequence-left, no-sequence-left, sequence-stops, sequence-goes}
@@ -17,14 +18,14 @@ use Rattle.baseline.proofs.training.run_all.Statement.{statement}
 use Rattle.baseline.proofs.training.run_all.Tie as tie
 
 abbrev Inv-loop : tie.InvT-loop
-Inv-loop g d nodes children sequences s n rate book₀ values₀ q₀ book values q =
+Inv-loop g d nodes children layer sequences s n rate book₀ values₀ q₀ book values q =
     (q ≤ s)
     × (length book ≡ length book₀)
     × (length values ≡ length values₀)
-    × (allLeft (inputOf g d nodes children sequences s n rate) (length book₀) q values ≡ allLeft (inputOf g d nodes children sequences s n rate) (length book₀) 0 values₀)
+    × (allLeft (inputOf g d nodes children (floorOf layer) sequences s n rate) (length book₀) q values ≡ allLeft (inputOf g d nodes children (floorOf layer) sequences s n rate) (length book₀) 0 values₀)
 
 abbrev μ-loop : tie.MeasureT-loop
-μ-loop g d nodes children sequences s n rate book₀ values₀ q₀ book values q = s - q
+μ-loop g d nodes children layer sequences s n rate book₀ values₀ q₀ book values q = s - q
 
 loop-holds : tie.Need-loop-holds Inv-loop μ-loop
 loop-holds c = (omega arith, refl, refl, refl)
@@ -40,7 +41,7 @@ run-sequence-requires : tie.Need-run-sequence-requires Inv-loop μ-loop
 run-sequence-requires c κs =
     let l = c .before .before .before in
     let st = l .before .before .before .before .before .before .before .before in
-    let x = inputOf (st .args .g .now) (st .args .d .now) (st .args .nodes .now) (st .args .children .now) (st .args .sequences .now) (st .args .s) (st .args .n) (st .args .rate) in
+    let x = inputOf (st .args .g .now) (st .args .d .now) (st .args .nodes .now) (st .args .children .now) (floorOf (st .args .layer)) (st .args .sequences .now) (st .args .s) (st .args .n) (st .args .rate) in
     let n = st .args .n in
     let q = l .loop .q in
     let values = l .loop .values in
@@ -67,12 +68,12 @@ returns c =
     let run = a .before .before .before .before .before .before in
     let l = run .before .before .before .before in
     let st = l .before .before .before .before .before .before .before .before in
-    let x = inputOf (st .args .g .now) (st .args .d .now) (st .args .nodes .now) (st .args .children .now) (st .args .sequences .now) (st .args .s) (st .args .n) (st .args .rate) in
+    let x = inputOf (st .args .g .now) (st .args .d .now) (st .args .nodes .now) (st .args .children .now) (floorOf (st .args .layer)) (st .args .sequences .now) (st .args .s) (st .args .n) (st .args .rate) in
     let n = st .args .n in
     let q = l .loop .q in
     let values = l .loop .values in
     let size = length (st .args .book .now) in
-    let after = run .run-sequence .last .1 .1 .1 .1 .1 .1 .1 .1 .1 .0 in
+    let after = run .run-sequence .last .1 .1 .1 .1 .1 .1 .1 .1 .1 .1 .0 in
     let lt : q < st .args .s = run .before .before .before .loop-test .taken in
     let is : entered 0 (sequenceRecords x size q) values ≡ ended (run .run-sequence .result) after =
     ap (λ (k : ℕ). entered 0 (recordsFrom (x .lent) (q * n) (restarted 0 k 0) 0 n) values) (sym (l .loop .inv .1)) ∙ sym (run .run-sequence .ensures) in
@@ -96,12 +97,12 @@ loop-again c =
     let run = c .before .before .before .before .before .before in
     let l = run .before .before .before .before in
     let st = l .before .before .before .before .before .before .before .before in
-    let x = inputOf (st .args .g .now) (st .args .d .now) (st .args .nodes .now) (st .args .children .now) (st .args .sequences .now) (st .args .s) (st .args .n) (st .args .rate) in
+    let x = inputOf (st .args .g .now) (st .args .d .now) (st .args .nodes .now) (st .args .children .now) (floorOf (st .args .layer)) (st .args .sequences .now) (st .args .s) (st .args .n) (st .args .rate) in
     let n = st .args .n in
     let q = l .loop .q in
     let values = l .loop .values in
     let size = length (st .args .book .now) in
-    let after = run .run-sequence .last .1 .1 .1 .1 .1 .1 .1 .1 .1 .0 in
+    let after = run .run-sequence .last .1 .1 .1 .1 .1 .1 .1 .1 .1 .1 .0 in
     let lt : q < st .args .s = run .before .before .before .loop-test .taken in
     let is : entered 0 (sequenceRecords x size q) values ≡ ended (run .run-sequence .result) after =
     ap (λ (k : ℕ). entered 0 (recordsFrom (x .lent) (q * n) (restarted 0 k 0) 0 n) values) (sym (l .loop .inv .1)) ∙ sym (run .run-sequence .ensures) in
@@ -117,7 +118,7 @@ returns-2 : tie.Need-returns-2 Inv-loop μ-loop
 returns-2 c =
     let l = c .before in
     let st = l .before .before .before .before .before .before .before .before in
-    let x = inputOf (st .args .g .now) (st .args .d .now) (st .args .nodes .now) (st .args .children .now) (st .args .sequences .now) (st .args .s) (st .args .n) (st .args .rate) in
+    let x = inputOf (st .args .g .now) (st .args .d .now) (st .args .nodes .now) (st .args .children .now) (floorOf (st .args .layer)) (st .args .sequences .now) (st .args .s) (st .args .n) (st .args .rate) in
     let n = st .args .n in
     let q = l .loop .q in
     let values = l .loop .values in

@@ -7,6 +7,7 @@ use native.Mathlib.Omega.{arith}
 use borrow.Author.Needs.{needs}
 use lib.ListN.{length}
 use Rattle.priors.specs.Refusals.{numberOf, namedNode}
+use Rattle.priors.specs.Layer.{floorOf}
 use Rattle.baseline.specs.declared.training.Entries.{Entries}
 use Rattle.baseline.specs.declared.training.Entries.the-variants.{Used, Stopped}
 use Rattle.baseline.specs.Training.{lentOf, knotCount}
@@ -18,15 +19,15 @@ use Rattle.baseline.proofs.training.run_sequence.Statement.{statement}
 use Rattle.baseline.proofs.training.run_sequence.Tie as tie
 
 abbrev Inv-loop : tie.InvT-loop
-Inv-loop g d nodes children sequences n rate first book₀ values₀ used₀ i₀ book values used i =
+Inv-loop g d nodes children layer sequences n rate first book₀ values₀ used₀ i₀ book values used i =
     (i ≤ n)
     × (length book ≡ length book₀)
     × (length values ≡ length values₀)
     × Holds sequences first i book used
-    × (left (lentOf g d nodes children sequences rate) first (length book₀) n i values ≡ left (lentOf g d nodes children sequences rate) first (length book₀) n 0 values₀)
+    × (left (lentOf g d nodes children (floorOf layer) sequences rate) first (length book₀) n i values ≡ left (lentOf g d nodes children (floorOf layer) sequences rate) first (length book₀) n 0 values₀)
 
 abbrev μ-loop : tie.MeasureT-loop
-μ-loop g d nodes children sequences n rate first book₀ values₀ used₀ i₀ book values used i = n - i
+μ-loop g d nodes children layer sequences n rate first book₀ values₀ used₀ i₀ book values used i = n - i
 
 loop-holds : tie.Need-loop-holds Inv-loop μ-loop
 loop-holds c =
@@ -37,7 +38,7 @@ one-path-requires : tie.Need-one-path-requires Inv-loop μ-loop
 one-path-requires c κs =
     let l = c .before .before .before in
     let st = l .before .before .before .before .before .before .before .before in
-    let x = lentOf (st .args .g .now) (st .args .d .now) (st .args .nodes .now) (st .args .children .now) (st .args .sequences .now) (st .args .rate) in
+    let x = lentOf (st .args .g .now) (st .args .d .now) (st .args .nodes .now) (st .args .children .now) (floorOf (st .args .layer)) (st .args .sequences .now) (st .args .rate) in
     let first = st .args .first in
     let n = st .args .n in
     let i = l .loop .i in
@@ -67,14 +68,14 @@ returns c =
     let op = a .before .before .before .before .before .before in
     let l = op .before .before .before .before in
     let st = l .before .before .before .before .before .before .before .before in
-    let x = lentOf (st .args .g .now) (st .args .d .now) (st .args .nodes .now) (st .args .children .now) (st .args .sequences .now) (st .args .rate) in
+    let x = lentOf (st .args .g .now) (st .args .d .now) (st .args .nodes .now) (st .args .children .now) (floorOf (st .args .layer)) (st .args .sequences .now) (st .args .rate) in
     let first = st .args .first in
     let n = st .args .n in
     let i = l .loop .i in
     let values = l .loop .values in
     let size = length (st .args .book .now) in
-    let book = op .one-path .last .1 .1 .1 .1 .1 .1 .1 .1 .0 in
-    let after = op .one-path .last .1 .1 .1 .1 .1 .1 .1 .1 .1 .1 .0 in
+    let book = op .one-path .last .1 .1 .1 .1 .1 .1 .1 .1 .1 .0 in
+    let after = op .one-path .last .1 .1 .1 .1 .1 .1 .1 .1 .1 .1 .1 .0 in
     let same : length book ≡ size = omega arith in
     let lt : i < n = op .before .before .before .loop-test .taken in
     let r = a .r .given .0 .0 in
@@ -98,14 +99,14 @@ loop-again c =
     let op = m .before .before .before .before .before .before in
     let l = op .before .before .before .before in
     let st = l .before .before .before .before .before .before .before .before in
-    let x = lentOf (st .args .g .now) (st .args .d .now) (st .args .nodes .now) (st .args .children .now) (st .args .sequences .now) (st .args .rate) in
+    let x = lentOf (st .args .g .now) (st .args .d .now) (st .args .nodes .now) (st .args .children .now) (floorOf (st .args .layer)) (st .args .sequences .now) (st .args .rate) in
     let first = st .args .first in
     let n = st .args .n in
     let i = l .loop .i in
     let values = l .loop .values in
     let size = length (st .args .book .now) in
-    let book = op .one-path .last .1 .1 .1 .1 .1 .1 .1 .1 .0 in
-    let after = op .one-path .last .1 .1 .1 .1 .1 .1 .1 .1 .1 .1 .0 in
+    let book = op .one-path .last .1 .1 .1 .1 .1 .1 .1 .1 .1 .0 in
+    let after = op .one-path .last .1 .1 .1 .1 .1 .1 .1 .1 .1 .1 .1 .0 in
     let same : length book ≡ size = omega arith in
     let lt : i < n = op .before .before .before .loop-test .taken in
     let more = m .more .given .0 .0 in
@@ -127,7 +128,7 @@ returns-2 : tie.Need-returns-2 Inv-loop μ-loop
 returns-2 c =
     let l = c .before in
     let st = l .before .before .before .before .before .before .before .before in
-    let x = lentOf (st .args .g .now) (st .args .d .now) (st .args .nodes .now) (st .args .children .now) (st .args .sequences .now) (st .args .rate) in
+    let x = lentOf (st .args .g .now) (st .args .d .now) (st .args .nodes .now) (st .args .children .now) (floorOf (st .args .layer)) (st .args .sequences .now) (st .args .rate) in
     let first = st .args .first in
     let n = st .args .n in
     let i = l .loop .i in

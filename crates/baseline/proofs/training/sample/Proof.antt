@@ -43,7 +43,7 @@ add-at-requires c κs =
     let st = read .before .before .before .before .before .before .before .before in
     let found : Statistics = record { stats = a .stats .given .0 .0; skipped = a .stats .given .0 .1 .0 } in (
       st .pre .1 .1 .1 .1 .1 .1 (read .before .if1 .left),
-      omega (arith, few-counted (st .args .g .now) (st .args .d .now) (st .args .nodes .now) (st .args .children .now) (st .args .book .now) (st .args .used) (st .args .i + 1) (statsAnswer (read .stats-of .result)) (read .stats-of .ensures) found (ap statsAnswer (a .stats .given .1)), st .pre .1 .1 .0),
+      omega (arith, few-counted (st .args .g .now) (st .args .d .now) (st .args .nodes .now) (st .args .children .now) (st .args .layer) (st .args .book .now) (st .args .used) (st .args .i + 1) (statsAnswer (read .stats-of .result)) (read .stats-of .ensures) found (ap statsAnswer (a .stats .given .1)), st .pre .1 .1 .0),
     )
 
 enum-known-r : tie.Need-enum-known-r
@@ -58,8 +58,8 @@ returns-2 c =
     let a = added .before .before .before in
     let read = a .before .before in
     let st = read .before .before .before .before .before .before .before .before in
-    let found : bookStats (st .args .g .now) (st .args .d .now) (st .args .nodes .now) (st .args .children .now) (rows (st .args .book .now) (st .args .used)) (st .args .i + 1) ≡ reached (a .stats .given .0 .0) =
-    stats-read (st .args .g .now) (st .args .d .now) (st .args .nodes .now) (st .args .children .now) (st .args .book .now) (st .args .used) (st .args .i + 1) (statsAnswer (read .stats-of .result)) (read .stats-of .ensures) ∙ ap (λ x. recorded (statsAnswer x)) (a .stats .given .1) in
+    let found : bookStats (st .args .g .now) (st .args .d .now) (st .args .nodes .now) (st .args .children .now) (st .args .layer) (rows (st .args .book .now) (st .args .used)) (st .args .i + 1) ≡ reached (a .stats .given .0 .0) =
+    stats-read (st .args .g .now) (st .args .d .now) (st .args .nodes .now) (st .args .children .now) (st .args .layer) (st .args .book .now) (st .args .used) (st .args .i + 1) (statsAnswer (read .stats-of .result)) (read .stats-of .ensures) ∙ ap (λ x. recorded (statsAnswer x)) (a .stats .given .1) in
     rw (eq-eqb (st .args .i % st .args .rate) 0 (read .before .if1 .left), found) (ap reached (added .add-at .ensures))
 
 returns-3 : tie.Need-returns-3
@@ -67,8 +67,8 @@ returns-3 c =
     let a = c .before in
     let read = a .before .before in
     let st = read .before .before .before .before .before .before .before .before in
-    let found : bookStats (st .args .g .now) (st .args .d .now) (st .args .nodes .now) (st .args .children .now) (rows (st .args .book .now) (st .args .used)) (st .args .i + 1) ≡ stopped (numberOf (a .r .given .0 .0)) (namedNode (a .r .given .0 .0)) =
-    stats-read (st .args .g .now) (st .args .d .now) (st .args .nodes .now) (st .args .children .now) (st .args .book .now) (st .args .used) (st .args .i + 1) (statsAnswer (read .stats-of .result)) (read .stats-of .ensures) ∙ ap (λ x. recorded (statsAnswer x)) (a .r .given .1) in
+    let found : bookStats (st .args .g .now) (st .args .d .now) (st .args .nodes .now) (st .args .children .now) (st .args .layer) (rows (st .args .book .now) (st .args .used)) (st .args .i + 1) ≡ stopped (numberOf (a .r .given .0 .0)) (namedNode (a .r .given .0 .0)) =
+    stats-read (st .args .g .now) (st .args .d .now) (st .args .nodes .now) (st .args .children .now) (st .args .layer) (st .args .book .now) (st .args .used) (st .args .i + 1) (statsAnswer (read .stats-of .result)) (read .stats-of .ensures) ∙ ap (λ x. recorded (statsAnswer x)) (a .r .given .1) in
     rw (eq-eqb (st .args .i % st .args .rate) 0 (read .before .if1 .left), found)
 
 pub sample-spec : {M : Type 1} → statement M

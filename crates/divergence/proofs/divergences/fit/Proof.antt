@@ -25,7 +25,8 @@ rank-at-requires c κs = search needs
 find-node-requires : tie.Need-find-node-requires
 find-node-requires c κs =
     let start = c .before .before .before .before in
-    accepted (start .args .nodes .now) (start .args .children .now) (start .pre .1 .1 .1) .ordered
+    let ok = accepted (start .args .nodes .now) (start .args .children .now) (start .args .layer) (start .pre .1 .1 .1) in
+    (ok .ordered, ok .apart)
 
 enum-told : tie.Need-enum-told
 enum-told c = search needs
@@ -42,9 +43,10 @@ lacks-child-requires c κs =
     let start = ranked .before .before .before .before in
     let nodes = start .args .nodes .now in
     let children = start .args .children .now in
-    let ok = accepted nodes children (start .pre .1 .1 .1) in
+    let layer = start .args .layer in
+    let ok = accepted nodes children layer (start .pre .1 .1 .1) in
     let found = sym (c .before .before .before .find-node .ensures) ∙ ap nodeFound (c .before .node .given .1) in
-    let chain = found-fits nodes children ok (ranked .rank-at .result) _ found in
+    let chain = found-fits nodes children layer ok (ranked .rank-at .result) _ found in
     (search needs, (search needs, (chain .link-fits, (ok .rising, chain .ascending))))
 
 returns : tie.Need-returns
@@ -54,9 +56,10 @@ returns c =
     let book = start .args .book .now in
     let nodes = start .args .nodes .now in
     let children = start .args .children .now in
+    let layer = start .args .layer in
     let e = evidenceAt book (start .args .i) (start .args .to) in
     let n = c .before .before .before .node .given .0 .0 in
-    let found : findRecord (nodeAt book (start .args .i)) (records nodes) ≡ some n = ap (λ (k : ℕ). findRecord k (records nodes)) (sym (ranked .rank-at .ensures)) ∙ sym (c .before .before .before .before .before .find-node .ensures) ∙ ap nodeFound (c .before .before .before .node .given .1) in
+    let found : findRecord layer (nodeAt book (start .args .i)) (records nodes) ≡ some n = ap (λ (k : ℕ). findRecord layer k (records nodes)) (sym (ranked .rank-at .ensures)) ∙ sym (c .before .before .before .before .before .find-node .ensures) ∙ ap nodeFound (c .before .before .before .node .given .1) in
     sym (ap (λ (o : Option Record). fitOf children (start .args .size) o e) found ∙ fit-lacks children (start .args .size) n e (sym (c .before .lacks-child .ensures) ∙ c .if1 .taken))
 
 prior-total-requires : tie.Need-prior-total-requires
@@ -65,9 +68,10 @@ prior-total-requires c κs =
     let start = ranked .before .before .before .before in
     let nodes = start .args .nodes .now in
     let children = start .args .children .now in
-    let ok = accepted nodes children (start .pre .1 .1 .1) in
+    let layer = start .args .layer in
+    let ok = accepted nodes children layer (start .pre .1 .1 .1) in
     let found = sym (c .before .before .before .before .before .find-node .ensures) ∙ ap nodeFound (c .before .before .before .node .given .1) in
-    let chain = found-fits nodes children ok (ranked .rank-at .result) _ found in
+    let chain = found-fits nodes children layer ok (ranked .rank-at .result) _ found in
     (chain .link-fits, (ok .rising, chain .short))
 
 count-total-requires : tie.Need-count-total-requires
@@ -79,9 +83,10 @@ add-u c =
     let start = ranked .before .before .before .before in
     let nodes = start .args .nodes .now in
     let children = start .args .children .now in
-    let ok = accepted nodes children (start .pre .1 .1 .1) in
+    let layer = start .args .layer in
+    let ok = accepted nodes children layer (start .pre .1 .1 .1) in
     let found = sym (c .before .before .before .before .before .before .before .find-node .ensures) ∙ ap nodeFound (c .before .before .before .before .before .node .given .1) in
-    let chain = found-fits nodes children ok (ranked .rank-at .result) _ found in
+    let chain = found-fits nodes children layer ok (ranked .rank-at .result) _ found in
     record {
       fits = omega (
         arith,
@@ -100,9 +105,10 @@ returns-2 c =
     let book = start .args .book .now in
     let nodes = start .args .nodes .now in
     let children = start .args .children .now in
+    let layer = start .args .layer in
     let e = evidenceAt book (start .args .i) (start .args .to) in
     let n = c .before .before .before .before .before .before .node .given .0 .0 in
-    let found : findRecord (nodeAt book (start .args .i)) (records nodes) ≡ some n = ap (λ (k : ℕ). findRecord k (records nodes)) (sym (ranked .rank-at .ensures)) ∙ sym (c .before .before .before .before .before .before .before .before .find-node .ensures) ∙ ap nodeFound (c .before .before .before .before .before .before .node .given .1) in
+    let found : findRecord layer (nodeAt book (start .args .i)) (records nodes) ≡ some n = ap (λ (k : ℕ). findRecord layer k (records nodes)) (sym (ranked .rank-at .ensures)) ∙ sym (c .before .before .before .before .before .before .before .before .find-node .ensures) ∙ ap nodeFound (c .before .before .before .before .before .before .node .given .1) in
     let past : start .args .size ≤ total (priorOfNode children n) + total e = omega (arith, c .before .before .prior-total .ensures, c .before .count-total .ensures, evidence-total book (start .args .i) (start .args .to) (start .pre .0), c .if2 .taken) in
     sym (ap (λ (o : Option Record). fitOf children (start .args .size) o e) found ∙ fit-past children (start .args .size) n e (sym (c .before .before .before .before .lacks-child .ensures) ∙ c .before .before .before .if1 .left) past)
 
@@ -112,8 +118,9 @@ returns-3 c =
     let start = ranked .before .before .before .before in
     let book = start .args .book .now in
     let nodes = start .args .nodes .now in
+    let layer = start .args .layer in
     let e = evidenceAt book (start .args .i) (start .args .to) in
-    let found : findRecord (nodeAt book (start .args .i)) (records nodes) ≡ none = ap (λ (k : ℕ). findRecord k (records nodes)) (sym (ranked .rank-at .ensures)) ∙ sym (c .before .before .find-node .ensures) ∙ ap nodeFound (c .enum-told .given .1) in
+    let found : findRecord layer (nodeAt book (start .args .i)) (records nodes) ≡ none = ap (λ (k : ℕ). findRecord layer k (records nodes)) (sym (ranked .rank-at .ensures)) ∙ sym (c .before .before .find-node .ensures) ∙ ap nodeFound (c .enum-told .given .1) in
     sym (ap (λ (o : Option Record). fitOf (start .args .children .now) (start .args .size) o e) found ∙ fit-none (start .args .children .now) (start .args .size) e)
 
 returns-4 : tie.Need-returns-4
@@ -123,13 +130,14 @@ returns-4 c =
     let book = start .args .book .now in
     let nodes = start .args .nodes .now in
     let children = start .args .children .now in
+    let layer = start .args .layer in
     let e = evidenceAt book (start .args .i) (start .args .to) in
     let n = c .before .before .before .before .before .before .node .given .0 .0 in
-    let found : findRecord (nodeAt book (start .args .i)) (records nodes) ≡ some n = ap (λ (k : ℕ). findRecord k (records nodes)) (sym (ranked .rank-at .ensures)) ∙ sym (c .before .before .before .before .before .before .before .before .find-node .ensures) ∙ ap nodeFound (c .before .before .before .before .before .before .node .given .1) in
+    let found : findRecord layer (nodeAt book (start .args .i)) (records nodes) ≡ some n = ap (λ (k : ℕ). findRecord layer k (records nodes)) (sym (ranked .rank-at .ensures)) ∙ sym (c .before .before .before .before .before .before .before .before .find-node .ensures) ∙ ap nodeFound (c .before .before .before .before .before .before .node .given .1) in
     let t-is : c .before .before .prior-total .result ≡ total (priorOfNode children n) = c .before .before .prior-total .ensures in
     let u-is : c .before .before .prior-total .result + c .before .count-total .result ≡ total (priorOfNode children n) + total e = omega (arith, t-is, c .before .count-total .ensures, evidence-total book (start .args .i) (start .args .to) (start .pre .0)) in
     let in-table : total (priorOfNode children n) + total e < start .args .size = omega (arith, u-is, c .if2 .left) in
-    let fits : fitOf children (start .args .size) (findRecord (nodeAt book (start .args .i)) (records nodes)) e ≡ Fits n (total (priorOfNode children n)) (total (priorOfNode children n) + total e) = ap (λ (o : Option Record). fitOf children (start .args .size) o e) found ∙ fit-fits children (start .args .size) n e (sym (c .before .before .before .before .lacks-child .ensures) ∙ c .before .before .before .if1 .left) in-table in
+    let fits : fitOf children (start .args .size) (findRecord layer (nodeAt book (start .args .i)) (records nodes)) e ≡ Fits n (total (priorOfNode children n)) (total (priorOfNode children n) + total e) = ap (λ (o : Option Record). fitOf children (start .args .size) o e) found ∙ fit-fits children (start .args .size) n e (sym (c .before .before .before .before .lacks-child .ensures) ∙ c .before .before .before .if1 .left) in-table in
     sym (fits ∙ ap₂ (Fits n) (sym t-is) (sym u-is))
 
 pub fit-spec : {M : Type 1} → statement M

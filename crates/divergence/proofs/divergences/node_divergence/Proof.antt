@@ -22,11 +22,12 @@ divergence-of-requires c κs =
     let book = start .args .book .now in
     let nodes = start .args .nodes .now in
     let children = start .args .children .now in
-    let found = findRecord (nodeAt book (start .args .i)) (records nodes) in
+    let layer = start .args .layer in
+    let found = findRecord (start .args .layer) (nodeAt book (start .args .i)) (records nodes) in
     let node = c .before .node in
     let has = fitting children (length (start .args .g .now)) found (evidenceAt book (start .args .i) (start .args .to)) (node .given .0 .0) (node .given .0 .1 .0) (node .given .0 .1 .1 .0) (sym (c .before .before .before .fit .ensures) ∙ node .given .1) in
-    let ok = accepted nodes children (start .pre .1 .1 .1 .0) in
-    let chain = found-fits nodes children ok (nodeAt book (start .args .i)) (node .given .0 .0) (has .record-is) in (
+    let ok = accepted nodes children layer (start .pre .1 .1 .1 .0) in
+    let chain = found-fits nodes children layer ok (nodeAt book (start .args .i)) (node .given .0 .0) (has .record-is) in (
       start .pre .0,
       (
         start .pre .1 .1 .0,
@@ -58,7 +59,7 @@ returns c =
     let g = start .args .g .now in
     let d = start .args .d .now in
     let e = evidenceAt book (start .args .i) (start .args .to) in
-    let found = findRecord (nodeAt book (start .args .i)) (records (start .args .nodes .now)) in
+    let found = findRecord (start .args .layer) (nodeAt book (start .args .i)) (records (start .args .nodes .now)) in
     sym (fit-divergence g d children found e ∙ ap (fitDivergence g d children e) (sym (c .before .before .before .before .fit .ensures) ∙ c .before .before .node .given .1) ∙ ap Value (sym (c .divergence-of .ensures)))
 
 returns-2 : tie.Need-returns-2
@@ -70,7 +71,7 @@ returns-2 c =
     let g = start .args .g .now in
     let d = start .args .d .now in
     let e = evidenceAt book (start .args .i) (start .args .to) in
-    let found = findRecord (nodeAt book (start .args .i)) (records (start .args .nodes .now)) in
+    let found = findRecord (start .args .layer) (nodeAt book (start .args .i)) (records (start .args .nodes .now)) in
     sym (fit-divergence g d children found e ∙ ap (fitDivergence g d children e) (sym (c .before .before .fit .ensures) ∙ c .enum-told .given .1))
 
 returns-3 : tie.Need-returns-3
@@ -82,7 +83,7 @@ returns-3 c =
     let g = start .args .g .now in
     let d = start .args .d .now in
     let e = evidenceAt book (start .args .i) (start .args .to) in
-    let found = findRecord (nodeAt book (start .args .i)) (records (start .args .nodes .now)) in
+    let found = findRecord (start .args .layer) (nodeAt book (start .args .i)) (records (start .args .nodes .now)) in
     sym (fit-divergence g d children found e ∙ ap (fitDivergence g d children e) (sym (c .before .before .fit .ensures) ∙ c .enum-told2 .given .1))
 
 returns-4 : tie.Need-returns-4
@@ -94,7 +95,7 @@ returns-4 c =
     let g = start .args .g .now in
     let d = start .args .d .now in
     let e = evidenceAt book (start .args .i) (start .args .to) in
-    let found = findRecord (nodeAt book (start .args .i)) (records (start .args .nodes .now)) in
+    let found = findRecord (start .args .layer) (nodeAt book (start .args .i)) (records (start .args .nodes .now)) in
     sym (fit-divergence g d children found e ∙ ap (fitDivergence g d children e) (sym (c .before .before .fit .ensures) ∙ c .enum-told3 .given .1))
 
 pub node-divergence-spec : {M : Type 1} → statement M

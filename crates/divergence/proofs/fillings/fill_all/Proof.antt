@@ -16,14 +16,14 @@ use Rattle.divergence.proofs.fillings.fill_all.Statement.{statement}
 use Rattle.divergence.proofs.fillings.fill_all.Tie as tie
 
 abbrev Inv-loop : tie.InvT-loop
-Inv-loop book used nodes children g d addresses₀ figures₀ filling₀ i₀ addresses figures filling i =
+Inv-loop book used nodes children layer g d addresses₀ figures₀ filling₀ i₀ addresses figures filling i =
     (i ≤ used)
     × (leading (part book i used) ≡ 0)
-    × FilledTo (walkFrom g d nodes children book 0 used) (walkFrom g d nodes children book i used) addresses₀ addresses figures₀ figures filling
+    × FilledTo (walkFrom g d nodes children layer book 0 used) (walkFrom g d nodes children layer book i used) addresses₀ addresses figures₀ figures filling
     × (filling .skipped ≤ i)
 
 abbrev μ-loop : tie.MeasureT-loop
-μ-loop book used nodes children g d addresses₀ figures₀ filling₀ i₀ addresses figures filling i = used - i
+μ-loop book used nodes children layer g d addresses₀ figures₀ filling₀ i₀ addresses figures filling i = used - i
 
 children-end-requires : tie.Need-children-end-requires Inv-loop μ-loop
 children-end-requires c κs = search needs
@@ -35,13 +35,14 @@ loop-holds c =
     let d = start .args .d .now in
     let nodes = start .args .nodes .now in
     let children = start .args .children .now in
+    let layer = start .args .layer in
     let book = start .args .book .now in
     let used = start .args .used in
     let at = first book (c .children-end .result) used (c .children-end .ensures) in
-    let whole = walkFrom g d nodes children book 0 used in (
+    let whole = walkFrom g d nodes children layer book 0 used in (
       at .within,
       at .ends,
-      subst (λ (ns : List Node). FilledTo whole (walk g d nodes children ns) (start .args .addresses .now) (start .args .addresses .now) (start .args .figures .now) (start .args .figures .now) (record { places = 0; skipped = 0 })) (at .nodes-are) (filled-start whole (start .args .addresses .now) (start .args .figures .now) (start .pre .1 .1 .1 .1 .0)),
+      subst (λ (ns : List Node). FilledTo whole (walk g d nodes children layer ns) (start .args .addresses .now) (start .args .addresses .now) (start .args .figures .now) (start .args .figures .now) (record { places = 0; skipped = 0 })) (at .nodes-are) (filled-start whole (start .args .addresses .now) (start .args .figures .now) (start .pre .1 .1 .1 .1 .0)),
       omega arith,
     )
 
@@ -72,20 +73,21 @@ put-requires c κs =
     let d = start .args .d .now in
     let nodes = start .args .nodes .now in
     let children = start .args .children .now in
+    let layer = start .args .layer in
     let book = start .args .book .now in
     let used = start .args .used in
     let i = loop .loop .i in
     let end = c .before .before .before .before .children-end2 in
     let to = next book (loop .before .before .before .before .before .before .before .before .shared-slice-known .given) i (end .result) used (c .before .before .before .before .before .loop-test .taken) (loop .loop .inv .1) (end .ensures) in
-    let whole = walkFrom g d nodes children book 0 used in
-    let x = divergenceAt g d nodes children book i (end .result) in
-    let sofar = subst (λ (w : Walk). FilledTo whole w (start .args .addresses .now) (loop .loop .addresses) (start .args .figures .now) (loop .loop .figures) (loop .loop .filling)) (walk-next g d nodes children book i (end .result) used to) (loop .loop .inv .2) in
+    let whole = walkFrom g d nodes children layer book 0 used in
+    let x = divergenceAt g d nodes children layer book i (end .result) in
+    let sofar = subst (λ (w : Walk). FilledTo whole w (start .args .addresses .now) (loop .loop .addresses) (start .args .figures .now) (loop .loop .figures) (loop .loop .filling)) (walk-next g d nodes children layer book i (end .result) used to) (loop .loop .inv .2) in
     let is : c .before .before .before .node-divergence .result ≡ x = c .before .before .before .node-divergence .ensures in
     let long = start .pre .1 .1 .1 .1 .1 .0 in
     let wide = start .pre .1 .1 .1 .1 .1 .1 in
     rw is (
-      room-addresses whole (start .args .addresses .now) (start .args .figures .now) (loop .loop .addresses) (loop .loop .figures) (loop .loop .filling) (nodeAt book i) x (walkFrom g d nodes children book (end .result) used) sofar long wide,
-      (room-figures whole (start .args .addresses .now) (start .args .figures .now) (loop .loop .addresses) (loop .loop .figures) (loop .loop .filling) (nodeAt book i) x (walkFrom g d nodes children book (end .result) used) sofar long wide, omega (arith, loop .loop .inv .3, start .pre .0)),
+      room-addresses whole (start .args .addresses .now) (start .args .figures .now) (loop .loop .addresses) (loop .loop .figures) (loop .loop .filling) (nodeAt book i) x (walkFrom g d nodes children layer book (end .result) used) sofar long wide,
+      (room-figures whole (start .args .addresses .now) (start .args .figures .now) (loop .loop .addresses) (loop .loop .figures) (loop .loop .filling) (nodeAt book i) x (walkFrom g d nodes children layer book (end .result) used) sofar long wide, omega (arith, loop .loop .inv .3, start .pre .0)),
     )
 
 loop-less : tie.Need-loop-less Inv-loop μ-loop
@@ -104,16 +106,17 @@ loop-again c =
     let d = start .args .d .now in
     let nodes = start .args .nodes .now in
     let children = start .args .children .now in
+    let layer = start .args .layer in
     let book = start .args .book .now in
     let used = start .args .used in
     let i = loop .loop .i in
     let end = c .before .before .before .before .before .before .before .before .before .children-end2 in
     let to = next book (loop .before .before .before .before .before .before .before .before .shared-slice-known .given) i (end .result) used (c .before .before .before .before .before .before .before .before .before .before .loop-test .taken) (loop .loop .inv .1) (end .ensures) in
-    let whole = walkFrom g d nodes children book 0 used in
-    let rest = walkFrom g d nodes children book (end .result) used in
-    let x = divergenceAt g d nodes children book i (end .result) in
+    let whole = walkFrom g d nodes children layer book 0 used in
+    let rest = walkFrom g d nodes children layer book (end .result) used in
+    let x = divergenceAt g d nodes children layer book i (end .result) in
     let f = loop .loop .filling in
-    let sofar = subst (λ (w : Walk). FilledTo whole w (start .args .addresses .now) (loop .loop .addresses) (start .args .figures .now) (loop .loop .figures) f) (walk-next g d nodes children book i (end .result) used to) (loop .loop .inv .2) in
+    let sofar = subst (λ (w : Walk). FilledTo whole w (start .args .addresses .now) (loop .loop .addresses) (start .args .figures .now) (loop .loop .figures) f) (walk-next g d nodes children layer book i (end .result) used to) (loop .loop .inv .2) in
     let step = filled-next whole (start .args .addresses .now) (start .args .figures .now) (loop .loop .addresses) (loop .loop .figures) f (nodeAt book i) x rest sofar (start .pre .1 .1 .1 .1 .1 .0) (start .pre .1 .1 .1 .1 .1 .1) in
     let put = c .before .before .before .before .put in
     let x-is : c .before .before .before .before .before .before .before .before .node-divergence .result ≡ x = c .before .before .before .before .before .before .before .before .node-divergence .ensures in
@@ -141,10 +144,11 @@ returns c =
     let d = start .args .d .now in
     let nodes = start .args .nodes .now in
     let children = start .args .children .now in
+    let layer = start .args .layer in
     let book = start .args .book .now in
     let used = start .args .used in
-    let whole = walkFrom g d nodes children book 0 used in
-    let sofar = subst (λ (w : Walk). FilledTo whole w (start .args .addresses .now) (loop .loop .addresses) (start .args .figures .now) (loop .loop .figures) (loop .loop .filling)) (walk-end g d nodes children book (loop .loop .i) used (c .loop-test .left)) (loop .loop .inv .2) in (
+    let whole = walkFrom g d nodes children layer book 0 used in
+    let sofar = subst (λ (w : Walk). FilledTo whole w (start .args .addresses .now) (loop .loop .addresses) (start .args .figures .now) (loop .loop .figures) (loop .loop .filling)) (walk-end g d nodes children layer book (loop .loop .i) used (c .loop-test .left)) (loop .loop .inv .2) in (
       end-skipped whole (start .args .addresses .now) (start .args .figures .now) (loop .loop .addresses) (loop .loop .figures) (loop .loop .filling) sofar,
       (
         end-addresses whole (start .args .addresses .now) (start .args .figures .now) (loop .loop .addresses) (loop .loop .figures) (loop .loop .filling) sofar,

@@ -20,13 +20,13 @@ use Rattle.divergence.proofs.fillings.first_stop.Statement.{statement}
 use Rattle.divergence.proofs.fillings.first_stop.Tie as tie
 
 abbrev Inv-loop : tie.InvT-loop
-Inv-loop book used nodes children size i₀ i =
+Inv-loop book used nodes children layer size i₀ i =
     (i ≤ used)
     × (leading (part book i used) ≡ 0)
-    × ((G D : List Float) → length G ≡ size → stopOf (walkFrom G D nodes children book i used) ≡ stopOf (walkFrom G D nodes children book 0 used))
+    × ((G D : List Float) → length G ≡ size → stopOf (walkFrom G D nodes children layer book i used) ≡ stopOf (walkFrom G D nodes children layer book 0 used))
 
 abbrev μ-loop : tie.MeasureT-loop
-μ-loop book used nodes children size i₀ i = used - i
+μ-loop book used nodes children layer size i₀ i = used - i
 
 children-end-requires : tie.Need-children-end-requires Inv-loop μ-loop
 children-end-requires c κs = search needs
@@ -36,7 +36,7 @@ loop-holds c =
     let start = c .before .before .before .before in
     let book = start .args .book .now in
     let at = first book (c .children-end .result) (start .args .used) (c .children-end .ensures) in
-    (at .within, at .ends, λ G D e. sym (ap (λ (ns : List Node). stopOf (walk G D (start .args .nodes .now) (start .args .children .now) ns)) (at .nodes-are)))
+    (at .within, at .ends, λ G D e. sym (ap (λ (ns : List Node). stopOf (walk G D (start .args .nodes .now) (start .args .children .now) (start .args .layer) ns)) (at .nodes-are)))
 
 add-children-end : tie.Need-add-children-end Inv-loop μ-loop
 add-children-end c = search needs
@@ -78,13 +78,14 @@ loop-again c =
     let book = start .args .book .now in
     let nodes = start .args .nodes .now in
     let children = start .args .children .now in
+    let layer = start .args .layer in
     let i = loop .loop .i in
     let end = c .before .before .before .before .before .children-end2 in
     let to = next book (loop .before .before .before .before .shared-slice-known .given) i (end .result) (start .args .used) (c .before .before .before .before .before .before .loop-test .taken) (loop .loop .inv .1) (end .ensures) in
-    let stop : c .before .before .stop-at .result ≡ fitStop (nodeAt book i) (fitOf children (start .args .size) (findRecord (nodeAt book i) (records nodes)) (evidenceAt book i (end .result))) = c .before .before .stop-at .ensures ∙ ap₂ (λ (k : ℕ) (f : NodeFit). fitStop k f) (c .before .before .before .rank-at .ensures) (c .before .before .before .before .fit .ensures) in (
+    let stop : c .before .before .stop-at .result ≡ fitStop (nodeAt book i) (fitOf children (start .args .size) (findRecord layer (nodeAt book i) (records nodes)) (evidenceAt book i (end .result))) = c .before .before .stop-at .ensures ∙ ap₂ (λ (k : ℕ) (f : NodeFit). fitStop k f) (c .before .before .before .rank-at .ensures) (c .before .before .before .before .fit .ensures) in (
       to .within,
       to .ends,
-      λ G D e. sym (stop-next G D nodes children book i (end .result) (start .args .used) to ∙ ap (λ (s : Checked). thenStop s (stopOf (walkFrom G D nodes children book (end .result) (start .args .used)))) (ap (λ (n : ℕ). fitStop (nodeAt book i) (fitOf children n (findRecord (nodeAt book i) (records nodes)) (evidenceAt book i (end .result)))) e ∙ sym stop ∙ c .enum-told .given .1)) ∙ loop .loop .inv .2 G D e,
+      λ G D e. sym (stop-next G D nodes children layer book i (end .result) (start .args .used) to ∙ ap (λ (s : Checked). thenStop s (stopOf (walkFrom G D nodes children layer book (end .result) (start .args .used)))) (ap (λ (n : ℕ). fitStop (nodeAt book i) (fitOf children n (findRecord layer (nodeAt book i) (records nodes)) (evidenceAt book i (end .result)))) e ∙ sym stop ∙ c .enum-told .given .1)) ∙ loop .loop .inv .2 G D e,
     )
 
 enum-known-r : tie.Need-enum-known-r Inv-loop μ-loop
@@ -97,17 +98,18 @@ returns c =
     let book = start .args .book .now in
     let nodes = start .args .nodes .now in
     let children = start .args .children .now in
+    let layer = start .args .layer in
     let i = loop .loop .i in
     let end = c .before .before .before .before .before .before .children-end2 in
     let to = next book (loop .before .before .before .before .shared-slice-known .given) i (end .result) (start .args .used) (c .before .before .before .before .before .before .before .loop-test .taken) (loop .loop .inv .1) (end .ensures) in
-    let stop : c .before .before .before .stop-at .result ≡ fitStop (nodeAt book i) (fitOf children (start .args .size) (findRecord (nodeAt book i) (records nodes)) (evidenceAt book i (end .result))) = c .before .before .before .stop-at .ensures ∙ ap₂ (λ (k : ℕ) (f : NodeFit). fitStop k f) (c .before .before .before .before .rank-at .ensures) (c .before .before .before .before .before .fit .ensures) in
-    λ G D e. sym (sym (loop .loop .inv .2 G D e) ∙ stop-next G D nodes children book i (end .result) (start .args .used) to ∙ ap (λ (s : Checked). thenStop s (stopOf (walkFrom G D nodes children book (end .result) (start .args .used)))) (ap (λ (n : ℕ). fitStop (nodeAt book i) (fitOf children n (findRecord (nodeAt book i) (records nodes)) (evidenceAt book i (end .result)))) e ∙ sym stop ∙ c .before .r .given .1))
+    let stop : c .before .before .before .stop-at .result ≡ fitStop (nodeAt book i) (fitOf children (start .args .size) (findRecord layer (nodeAt book i) (records nodes)) (evidenceAt book i (end .result))) = c .before .before .before .stop-at .ensures ∙ ap₂ (λ (k : ℕ) (f : NodeFit). fitStop k f) (c .before .before .before .before .rank-at .ensures) (c .before .before .before .before .before .fit .ensures) in
+    λ G D e. sym (sym (loop .loop .inv .2 G D e) ∙ stop-next G D nodes children layer book i (end .result) (start .args .used) to ∙ ap (λ (s : Checked). thenStop s (stopOf (walkFrom G D nodes children layer book (end .result) (start .args .used)))) (ap (λ (n : ℕ). fitStop (nodeAt book i) (fitOf children n (findRecord layer (nodeAt book i) (records nodes)) (evidenceAt book i (end .result)))) e ∙ sym stop ∙ c .before .r .given .1))
 
 returns-2 : tie.Need-returns-2 Inv-loop μ-loop
 returns-2 c =
     let loop = c .before in
     let start = loop .before .before .before .before .before in
-    λ G D e. sym (sym (loop .loop .inv .2 G D e) ∙ stop-end G D (start .args .nodes .now) (start .args .children .now) (start .args .book .now) (loop .loop .i) (start .args .used) (c .loop-test .left))
+    λ G D e. sym (sym (loop .loop .inv .2 G D e) ∙ stop-end G D (start .args .nodes .now) (start .args .children .now) (start .args .layer) (start .args .book .now) (loop .loop .i) (start .args .used) (c .loop-test .left))
 
 pub first-stop-spec : {M : Type 1} → statement M
 first-stop-spec =

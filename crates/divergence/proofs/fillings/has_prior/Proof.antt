@@ -18,12 +18,12 @@ enum-told-2 c = search needs
 returns : tie.Need-returns
 returns c =
     let start = c .before .before .before .before in
-    one-prior (start .args .nodes .now) (start .args .rank) (c .enum-told .given .0 .0) (sym (c .before .before .find-node .ensures) ∙ ap nodeFound (c .enum-told .given .1))
+    one-prior (start .args .nodes .now) (start .args .layer) (start .args .rank) (c .enum-told .given .0 .0) (sym (c .before .before .find-node .ensures) ∙ ap nodeFound (c .enum-told .given .1))
 
 returns-2 : tie.Need-returns-2
 returns-2 c =
     let start = c .before .before .before .before in
-    no-prior (start .args .nodes .now) (start .args .rank) (sym (c .before .before .find-node .ensures) ∙ ap nodeFound (c .enum-told2 .given .1))
+    no-prior (start .args .nodes .now) (start .args .layer) (start .args .rank) (sym (c .before .before .find-node .ensures) ∙ ap nodeFound (c .enum-told2 .given .1))
 
 pub has-prior-spec : {M : Type 1} → statement M
 has-prior-spec = tie.close (tie.spec find-node-requires enum-told enum-told-2 returns returns-2)

@@ -20,7 +20,8 @@ use Rattle.divergence.proofs.kl_readings.all_listed.Tie as tie
 with-prior-requires : tie.Need-with-prior-requires
 with-prior-requires c κs =
     let start = c .before .before .before .before .before .before .before in
-    (start .pre .0, (start .pre .1 .0, accepted (start .args .nodes .now) (start .args .children .now) (start .pre .1 .1 .0) .ordered))
+    let ok = accepted (start .args .nodes .now) (start .args .children .now) (start .args .layer) (start .pre .1 .1 .0) in
+    (start .pre .0, (start .pre .1 .0, (ok .ordered, ok .apart)))
 
 returns : tie.Need-returns
 returns c =
@@ -29,11 +30,12 @@ returns c =
     let d = start .args .d .now in
     let nodes = start .args .nodes .now in
     let children = start .args .children .now in
+    let layer = start .args .layer in
     let book = start .args .book .now in
     let addresses = start .args .addresses .now in
     let figures = start .args .figures .now in
     let ns = nodesFrom book 0 (start .args .used) in
-    let is = all-short g d nodes children ns (room addresses figures) (short-addresses (length addresses / 8) (length figures) (withPrior nodes children ns) (omega (arith, c .before .with-prior .ensures .0 children, c .if1 .taken))) in
+    let is = all-short g d nodes children layer ns (room addresses figures) (short-addresses (length addresses / 8) (length figures) (withPrior nodes children layer ns) (omega (arith, c .before .with-prior .ensures .0 children, c .if1 .taken))) in
     (sym (ap allResult is), (sym (ap (λ (r : Reading Divergences). allAddresses r addresses) is), sym (ap (λ (r : Reading Divergences). allFigures r figures) is)))
 
 returns-2 : tie.Need-returns-2
@@ -43,11 +45,12 @@ returns-2 c =
     let d = start .args .d .now in
     let nodes = start .args .nodes .now in
     let children = start .args .children .now in
+    let layer = start .args .layer in
     let book = start .args .book .now in
     let addresses = start .args .addresses .now in
     let figures = start .args .figures .now in
     let ns = nodesFrom book 0 (start .args .used) in
-    let is = all-short g d nodes children ns (room addresses figures) (short-figures (length addresses / 8) (length figures) (withPrior nodes children ns) (omega (arith, c .before .before .with-prior .ensures .0 children, c .if2 .taken))) in
+    let is = all-short g d nodes children layer ns (room addresses figures) (short-figures (length addresses / 8) (length figures) (withPrior nodes children layer ns) (omega (arith, c .before .before .with-prior .ensures .0 children, c .if2 .taken))) in
     (sym (ap allResult is), (sym (ap (λ (r : Reading Divergences). allAddresses r addresses) is), sym (ap (λ (r : Reading Divergences). allFigures r figures) is)))
 
 first-stop-requires : tie.Need-first-stop-requires
@@ -66,12 +69,13 @@ fill-all-requires c κs =
     let d = start .args .d .now in
     let nodes = start .args .nodes .now in
     let children = start .args .children .now in
+    let layer = start .args .layer in
     let book = start .args .book .now in
     let addresses = start .args .addresses .now in
     let figures = start .args .figures .now in
     let ns = nodesFrom book 0 (start .args .used) in
-    let stop : stopOf (walk g d nodes children ns) ≡ Passed = sym (c .before .before .before .before .first-stop .ensures g d refl) ∙ c .before .before .enum-told .given .1 in
-    let number = c .before .before .before .before .before .before .before .with-prior .ensures .0 children ∙ places-number g d nodes children ns stop in (
+    let stop : stopOf (walk g d nodes children layer ns) ≡ Passed = sym (c .before .before .before .before .first-stop .ensures g d refl) ∙ c .before .before .enum-told .given .1 in
+    let number = c .before .before .before .before .before .before .before .with-prior .ensures .0 children ∙ places-number g d nodes children layer ns stop in (
       start .pre .0,
       (
         start .pre .1 .0,
@@ -89,13 +93,14 @@ returns-3 c =
     let d = start .args .d .now in
     let nodes = start .args .nodes .now in
     let children = start .args .children .now in
+    let layer = start .args .layer in
     let book = start .args .book .now in
     let addresses = start .args .addresses .now in
     let figures = start .args .figures .now in
     let ns = nodesFrom book 0 (start .args .used) in
     let number = c .before .before .before .before .before .before .with-prior .ensures .0 children in
-    let enough : withPrior nodes children ns ≤ room addresses figures = le-min (omega (arith, number, c .before .before .before .before .before .if1 .left)) (omega (arith, number, c .before .before .before .before .if2 .left)) in
-    let is = all-stopped g d nodes children ns (room addresses figures) enough (c .before .r .given .0 .0) (sym (c .before .r .given .1) ∙ c .before .before .before .first-stop .ensures g d refl) in
+    let enough : withPrior nodes children layer ns ≤ room addresses figures = le-min (omega (arith, number, c .before .before .before .before .before .if1 .left)) (omega (arith, number, c .before .before .before .before .if2 .left)) in
+    let is = all-stopped g d nodes children layer ns (room addresses figures) enough (c .before .r .given .0 .0) (sym (c .before .r .given .1) ∙ c .before .before .before .first-stop .ensures g d refl) in
     (sym (ap allResult is), (sym (ap (λ (r : Reading Divergences). allAddresses r addresses) is), sym (ap (λ (r : Reading Divergences). allFigures r figures) is)))
 
 same-length : tie.Need-same-length
@@ -111,16 +116,17 @@ returns-4 c =
     let d = start .args .d .now in
     let nodes = start .args .nodes .now in
     let children = start .args .children .now in
+    let layer = start .args .layer in
     let book = start .args .book .now in
     let addresses = start .args .addresses .now in
     let figures = start .args .figures .now in
     let ns = nodesFrom book 0 (start .args .used) in
-    let stop : stopOf (walk g d nodes children ns) ≡ Passed = sym (c .before .before .before .before .before .before .before .before .before .first-stop .ensures g d refl) ∙ c .before .before .before .before .before .before .before .enum-told .given .1 in
+    let stop : stopOf (walk g d nodes children layer ns) ≡ Passed = sym (c .before .before .before .before .before .before .before .before .before .first-stop .ensures g d refl) ∙ c .before .before .before .before .before .before .before .enum-told .given .1 in
     let number = c .before .before .before .before .before .before .before .before .before .before .before .before .with-prior .ensures .0 children in
-    let enough : withPrior nodes children ns ≤ room addresses figures = le-min (omega (arith, number, c .before .before .before .before .before .before .before .before .before .before .before .if1 .left)) (omega (arith, number, c .before .before .before .before .before .before .before .before .before .before .if2 .left)) in
-    let is = all-filled g d nodes children ns (room addresses figures) enough stop in
+    let enough : withPrior nodes children layer ns ≤ room addresses figures = le-min (omega (arith, number, c .before .before .before .before .before .before .before .before .before .before .before .if1 .left)) (omega (arith, number, c .before .before .before .before .before .before .before .before .before .before .if2 .left)) in
+    let is = all-filled g d nodes children layer ns (room addresses figures) enough stop in
     let filled = c .before .before .before .before .fill-all .ensures in (
-      ap₂ (λ (n k : ℕ). let r : Reading AllResult = answered (record { places = n; skipped = k }) in r) (number ∙ places-number g d nodes children ns stop) (filled .0) ∙ sym (ap allResult is),
+      ap₂ (λ (n k : ℕ). let r : Reading AllResult = answered (record { places = n; skipped = k }) in r) (number ∙ places-number g d nodes children layer ns stop) (filled .0) ∙ sym (ap allResult is),
       (filled .1 .0 ∙ sym (ap (λ (r : Reading Divergences). allAddresses r addresses) is), filled .1 .1 ∙ sym (ap (λ (r : Reading Divergences). allFigures r figures) is)),
     )
 

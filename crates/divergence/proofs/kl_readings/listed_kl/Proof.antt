@@ -45,18 +45,19 @@ returns c =
     let d = start .args .d .now in
     let nodes = start .args .nodes .now in
     let children = start .args .children .now in
+    let layer = start .args .layer in
     let rank = start .args .rank in
     let e = evidenceAt (start .args .book .now) (found .i .given .0 .0) (found .i .given .0 .1 .0) in
     let at = listed found in
     c .answer .ensures
-    ∙ ap (divergenceReading rank) (c .before .node-divergence .ensures ∙ ap (λ (k : ℕ). nodeDivergence g d (priorOf nodes children k) e) (at .node-is))
-    ∙ sym (ap (ofListed g d nodes children rank) (at .evidence-is))
+    ∙ ap (divergenceReading rank) (c .before .node-divergence .ensures ∙ ap (λ (k : ℕ). nodeDivergence g d (priorOf nodes children layer k) e) (at .node-is))
+    ∙ sym (ap (ofListed g d nodes children layer rank) (at .evidence-is))
 
 returns-2 : tie.Need-returns-2
 returns-2 c =
     let start = c .before .before .before .before .before .before .before .before in
     let none-is = subst (λ (l : Listed). IsListed (start .args .book .now) (start .args .used) (start .args .rank) l) (c .enum-told .given .1) (c .before .before .find-listed .ensures) in
-    sym (ap (ofListed (start .args .g .now) (start .args .d .now) (start .args .nodes .now) (start .args .children .now) (start .args .rank)) none-is)
+    sym (ap (ofListed (start .args .g .now) (start .args .d .now) (start .args .nodes .now) (start .args .children .now) (start .args .layer) (start .args .rank)) none-is)
 
 pub listed-kl-spec : {M : Type 1} → statement M
 listed-kl-spec =

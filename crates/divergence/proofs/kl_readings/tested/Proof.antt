@@ -39,14 +39,14 @@ returns c =
     let tables = sym (told .before .before .before .before .before .check-tables .ensures) ∙ ap checkedNumber (told .before .before .before .enum-told .given .1) in
     let priors = sym (told .before .before .check-priors .ensures) ∙ ap checkedNumber (told .enum-told2 .given .1) in
     let form = inForm (start .args .t) (start .args .book .now) (start .args .queue .now) in
-    goes-on (tablesRefusal (start .args .g .now) (start .args .d .now)) (orElse (priorsRefusal (start .args .nodes .now) (start .args .children .now)) (formRefusal (start .args .t) (start .args .book .now) (start .args .queue .now))) 0 tables
-    (goes-on (priorsRefusal (start .args .nodes .now) (start .args .children .now)) (formRefusal (start .args .t) (start .args .book .now) (start .args .queue .now)) 0 priors
+    goes-on (tablesRefusal (start .args .g .now) (start .args .d .now)) (orElse (priorsRefusal (start .args .nodes .now) (start .args .children .now) (start .args .layer)) (formRefusal (start .args .t) (start .args .book .now) (start .args .queue .now))) 0 tables
+    (goes-on (priorsRefusal (start .args .nodes .now) (start .args .children .now) (start .args .layer)) (formRefusal (start .args .t) (start .args .book .now) (start .args .queue .now)) 0 priors
     (form-number form (sym (c .before .in-form .ensures) ∙ c .if1 .taken)))
 
 returns-2 : tie.Need-returns-2
 returns-2 c =
     let start = c .before .before .before .before .before .before .before .before .before .before in
-    stops (tablesRefusal (start .args .g .now) (start .args .d .now)) (orElse (priorsRefusal (start .args .nodes .now) (start .args .children .now)) (formRefusal (start .args .t) (start .args .book .now) (start .args .queue .now))) (c .before .r .given .0 .0)
+    stops (tablesRefusal (start .args .g .now) (start .args .d .now)) (orElse (priorsRefusal (start .args .nodes .now) (start .args .children .now) (start .args .layer)) (formRefusal (start .args .t) (start .args .book .now) (start .args .queue .now))) (c .before .r .given .0 .0)
     (sym (c .before .before .before .check-tables .ensures) ∙ ap checkedNumber (c .before .r .given .1))
 
 returns-3 : tie.Need-returns-3
@@ -55,8 +55,8 @@ returns-3 c =
     let start = told .before .before .before .before .before .before .before .before .before in
     let tables = sym (told .before .before .check-tables .ensures) ∙ ap checkedNumber (told .enum-told .given .1) in
     let priors = sym (c .before .before .before .check-priors .ensures) ∙ ap checkedNumber (c .before .r2 .given .1) in
-    goes-on (tablesRefusal (start .args .g .now) (start .args .d .now)) (orElse (priorsRefusal (start .args .nodes .now) (start .args .children .now)) (formRefusal (start .args .t) (start .args .book .now) (start .args .queue .now))) _ tables
-    (stops (priorsRefusal (start .args .nodes .now) (start .args .children .now)) (formRefusal (start .args .t) (start .args .book .now) (start .args .queue .now)) (c .before .r2 .given .0 .0) priors)
+    goes-on (tablesRefusal (start .args .g .now) (start .args .d .now)) (orElse (priorsRefusal (start .args .nodes .now) (start .args .children .now) (start .args .layer)) (formRefusal (start .args .t) (start .args .book .now) (start .args .queue .now))) _ tables
+    (stops (priorsRefusal (start .args .nodes .now) (start .args .children .now) (start .args .layer)) (formRefusal (start .args .t) (start .args .book .now) (start .args .queue .now)) (c .before .r2 .given .0 .0) priors)
 
 returns-4 : tie.Need-returns-4
 returns-4 c =
@@ -65,8 +65,8 @@ returns-4 c =
     let tables = sym (told .before .before .before .before .before .check-tables .ensures) ∙ ap checkedNumber (told .before .before .before .enum-told .given .1) in
     let priors = sym (told .before .before .check-priors .ensures) ∙ ap checkedNumber (told .enum-told2 .given .1) in
     let form = inForm (start .args .t) (start .args .book .now) (start .args .queue .now) in
-    goes-on (tablesRefusal (start .args .g .now) (start .args .d .now)) (orElse (priorsRefusal (start .args .nodes .now) (start .args .children .now)) (formRefusal (start .args .t) (start .args .book .now) (start .args .queue .now))) 9 tables
-    (goes-on (priorsRefusal (start .args .nodes .now) (start .args .children .now)) (formRefusal (start .args .t) (start .args .book .now) (start .args .queue .now)) 9 priors
+    goes-on (tablesRefusal (start .args .g .now) (start .args .d .now)) (orElse (priorsRefusal (start .args .nodes .now) (start .args .children .now) (start .args .layer)) (formRefusal (start .args .t) (start .args .book .now) (start .args .queue .now))) 9 tables
+    (goes-on (priorsRefusal (start .args .nodes .now) (start .args .children .now) (start .args .layer)) (formRefusal (start .args .t) (start .args .book .now) (start .args .queue .now)) 9 priors
     (form-broken form (sym (c .before .in-form .ensures) ∙ c .if1 .left)))
 
 pub tested-spec : {M : Type 1} → statement M

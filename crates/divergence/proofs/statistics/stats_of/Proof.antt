@@ -17,15 +17,15 @@ use Rattle.divergence.proofs.statistics.stats_of.Statement.{statement}
 use Rattle.divergence.proofs.statistics.stats_of.Tie as tie
 
 abbrev Inv-loop : tie.InvT-loop
-Inv-loop book used nodes children g d sequence-len tally₀ i₀ tally i =
+Inv-loop book used nodes children layer g d sequence-len tally₀ i₀ tally i =
     (i ≤ used)
     × (leading (part book i used) ≡ 0)
-    × (tallyReading tally (walkFrom g d nodes children book i used) ≡ statsReadingOf sequence-len (walkFrom g d nodes children book 0 used))
+    × (tallyReading tally (walkFrom g d nodes children layer book i used) ≡ statsReadingOf sequence-len (walkFrom g d nodes children layer book 0 used))
     × (tally .stats .«nz_count» ≤ i)
     × (tally .skipped ≤ i)
 
 abbrev μ-loop : tie.MeasureT-loop
-μ-loop book used nodes children g d sequence-len tally₀ i₀ tally i = used - i
+μ-loop book used nodes children layer g d sequence-len tally₀ i₀ tally i = used - i
 
 no-stats-requires : tie.Need-no-stats-requires Inv-loop μ-loop
 no-stats-requires c κs = search needs
@@ -40,11 +40,12 @@ loop-holds c =
     let d = start .args .d .now in
     let nodes = start .args .nodes .now in
     let children = start .args .children .now in
+    let layer = start .args .layer in
     let book = start .args .book .now in
     let at = first book (c .children-end .result) (start .args .used) (c .children-end .ensures) in (
       at .within,
       at .ends,
-      ap₂ (λ (s : KLDivergenceStats) (ns : List Node). tallyReading (record { stats = s; skipped = 0 }) (walk g d nodes children ns)) (c .before .no-stats .ensures) (sym (at .nodes-are)) ∙ tally-start (start .args .sequence-len) (walkFrom g d nodes children book 0 (start .args .used)),
+      ap₂ (λ (s : KLDivergenceStats) (ns : List Node). tallyReading (record { stats = s; skipped = 0 }) (walk g d nodes children layer ns)) (c .before .no-stats .ensures) (sym (at .nodes-are)) ∙ tally-start (start .args .sequence-len) (walkFrom g d nodes children layer book 0 (start .args .used)),
       omega (arith, ap (λ (s : KLDivergenceStats). s .«nz_count») (c .before .no-stats .ensures)),
       omega arith,
     )
@@ -85,13 +86,14 @@ returns c =
     let d = start .args .d .now in
     let nodes = start .args .nodes .now in
     let children = start .args .children .now in
+    let layer = start .args .layer in
     let book = start .args .book .now in
     let i = loop .loop .i in
     let end = c .before .before .before .before .before .before .children-end2 in
     let to = next book (loop .before .before .before .before .before .before .before .shared-slice-known .given) i (end .result) (start .args .used) (c .before .before .before .before .before .before .before .loop-test .taken) (loop .loop .inv .1) (end .ensures) in
     let more = c .before .before .before .one-more in
-    let is : more .result ≡ tallyOf (loop .loop .tally) (nodeAt book i) (divergenceAt g d nodes children book i (end .result)) = more .ensures ∙ ap₂ (λ (k : ℕ) (x : NodeDivergence). tallyOf (loop .loop .tally) k x) (c .before .before .before .before .rank-at .ensures) (c .before .before .before .before .before .node-divergence .ensures) in
-    sym (sym (loop .loop .inv .2) ∙ tally-next g d nodes children book (loop .loop .tally) i (end .result) (start .args .used) to ∙ ap (λ (t : Tallied). talliedReading t (walkFrom g d nodes children book (end .result) (start .args .used))) (sym is ∙ c .before .refusal .given .1))
+    let is : more .result ≡ tallyOf (loop .loop .tally) (nodeAt book i) (divergenceAt g d nodes children layer book i (end .result)) = more .ensures ∙ ap₂ (λ (k : ℕ) (x : NodeDivergence). tallyOf (loop .loop .tally) k x) (c .before .before .before .before .rank-at .ensures) (c .before .before .before .before .before .node-divergence .ensures) in
+    sym (sym (loop .loop .inv .2) ∙ tally-next g d nodes children layer book (loop .loop .tally) i (end .result) (start .args .used) to ∙ ap (λ (t : Tallied). talliedReading t (walkFrom g d nodes children layer book (end .result) (start .args .used))) (sym is ∙ c .before .refusal .given .1))
 
 loop-less : tie.Need-loop-less Inv-loop μ-loop
 loop-less c =
@@ -109,17 +111,18 @@ loop-again c =
     let d = start .args .d .now in
     let nodes = start .args .nodes .now in
     let children = start .args .children .now in
+    let layer = start .args .layer in
     let book = start .args .book .now in
     let i = loop .loop .i in
     let end = c .before .before .before .before .before .before .children-end2 in
     let to = next book (loop .before .before .before .before .before .before .before .shared-slice-known .given) i (end .result) (start .args .used) (c .before .before .before .before .before .before .before .loop-test .taken) (loop .loop .inv .1) (end .ensures) in
     let more = c .before .before .before .one-more in
-    let is : more .result ≡ tallyOf (loop .loop .tally) (nodeAt book i) (divergenceAt g d nodes children book i (end .result)) = more .ensures ∙ ap₂ (λ (k : ℕ) (x : NodeDivergence). tallyOf (loop .loop .tally) k x) (c .before .before .before .before .rank-at .ensures) (c .before .before .before .before .before .node-divergence .ensures) in
+    let is : more .result ≡ tallyOf (loop .loop .tally) (nodeAt book i) (divergenceAt g d nodes children layer book i (end .result)) = more .ensures ∙ ap₂ (λ (k : ℕ) (x : NodeDivergence). tallyOf (loop .loop .tally) k x) (c .before .before .before .before .rank-at .ensures) (c .before .before .before .before .before .node-divergence .ensures) in
     let on = sym is ∙ c .before .next .given .1 in
-    let grown = tally-grows (loop .loop .tally) (nodeAt book i) (divergenceAt g d nodes children book i (end .result)) _ on in (
+    let grown = tally-grows (loop .loop .tally) (nodeAt book i) (divergenceAt g d nodes children layer book i (end .result)) _ on in (
       to .within,
       to .ends,
-      sym (ap (λ (t : Tallied). talliedReading t (walkFrom g d nodes children book (end .result) (start .args .used))) on) ∙ sym (tally-next g d nodes children book (loop .loop .tally) i (end .result) (start .args .used) to) ∙ loop .loop .inv .2,
+      sym (ap (λ (t : Tallied). talliedReading t (walkFrom g d nodes children layer book (end .result) (start .args .used))) on) ∙ sym (tally-next g d nodes children layer book (loop .loop .tally) i (end .result) (start .args .used) to) ∙ loop .loop .inv .2,
       omega (arith, grown .counted-le, to .later),
       omega (arith, grown .skipped-le, to .later),
     )
@@ -132,8 +135,9 @@ returns-2 c =
     let d = start .args .d .now in
     let nodes = start .args .nodes .now in
     let children = start .args .children .now in
+    let layer = start .args .layer in
     let book = start .args .book .now in
-    sym (sym (loop .loop .inv .2) ∙ ap (tallyReading (loop .loop .tally)) (walk-end g d nodes children book (loop .loop .i) (start .args .used) (c .before .loop-test .left)) ∙ tally-end (loop .loop .tally))
+    sym (sym (loop .loop .inv .2) ∙ ap (tallyReading (loop .loop .tally)) (walk-end g d nodes children layer book (loop .loop .i) (start .args .used) (c .before .loop-test .left)) ∙ tally-end (loop .loop .tally))
 
 pub stats-of-spec : {M : Type 1} → statement M
 stats-of-spec =
