@@ -9,13 +9,14 @@ use crate::answers::tell_trained;
 use baseline::baselines::stats;
 use baseline::training::train;
 
-// Numbers 1 to 7, 9, 16 and 13, then 10, 12, 14 and 15 as the work meets them.
+// Numbers 1 to 7, 22, 9, 16 and 13, then 10, 12, 14 and 15 as the work meets them.
 #[no_mangle]
 pub extern "C" fn teakpool_train(
     g: &[f64],
     d: &[f64],
     nodes: &[u8],
     children: &[u8],
+    floor: i32,
     sequences: &[u8],
     s: u32,
     n: u32,
@@ -27,19 +28,20 @@ pub extern "C" fn teakpool_train(
     node_scale: &mut i32,
     node_point: &mut u32,
 ) -> u32
-    ensures { λ r. ⌜ r ≡ code ((trainAsked (inputOf (now (g .entry)) (now (d .entry)) (now (nodes .entry)) (now (children .entry)) (now (sequences .entry)) s n rate) (now (book .entry)) (now (knots .entry)) (now (values .entry))) .answer) ⌝ }
-    ensures { λ _. ⌜ now (book .exit) ≡ (trainAsked (inputOf (now (g .entry)) (now (d .entry)) (now (nodes .entry)) (now (children .entry)) (now (sequences .entry)) s n rate) (now (book .entry)) (now (knots .entry)) (now (values .entry))) .book ⌝ }
-    ensures { λ _. ⌜ now (knots .exit) ≡ (trainAsked (inputOf (now (g .entry)) (now (d .entry)) (now (nodes .entry)) (now (children .entry)) (now (sequences .entry)) s n rate) (now (book .entry)) (now (knots .entry)) (now (values .entry))) .knots ⌝ }
-    ensures { λ _. ⌜ now (values .exit) ≡ (trainAsked (inputOf (now (g .entry)) (now (d .entry)) (now (nodes .entry)) (now (children .entry)) (now (sequences .entry)) s n rate) (now (book .entry)) (now (knots .entry)) (now (values .entry))) .values ⌝ }
-    ensures { λ _. ⌜ now (count .exit) ≡ written itself ((trainAsked (inputOf (now (g .entry)) (now (d .entry)) (now (nodes .entry)) (now (children .entry)) (now (sequences .entry)) s n rate) (now (book .entry)) (now (knots .entry)) (now (values .entry))) .answer) (now (count .entry)) ⌝ }
-    ensures { λ _. ⌜ now («node_scale» .exit) ≡ scaleNamed ((trainAsked (inputOf (now (g .entry)) (now (d .entry)) (now (nodes .entry)) (now (children .entry)) (now (sequences .entry)) s n rate) (now (book .entry)) (now (knots .entry)) (now (values .entry))) .answer) (now («node_scale» .entry)) ⌝ }
-    ensures { λ _. ⌜ now («node_point» .exit) ≡ pointNamed ((trainAsked (inputOf (now (g .entry)) (now (d .entry)) (now (nodes .entry)) (now (children .entry)) (now (sequences .entry)) s n rate) (now (book .entry)) (now (knots .entry)) (now (values .entry))) .answer) (now («node_point» .entry)) ⌝ }
+    ensures { λ r. ⌜ r ≡ code ((trainAsked (inputOf (now (g .entry)) (now (d .entry)) (now (nodes .entry)) (now (children .entry)) floor (now (sequences .entry)) s n rate) (now (book .entry)) (now (knots .entry)) (now (values .entry))) .answer) ⌝ }
+    ensures { λ _. ⌜ now (book .exit) ≡ (trainAsked (inputOf (now (g .entry)) (now (d .entry)) (now (nodes .entry)) (now (children .entry)) floor (now (sequences .entry)) s n rate) (now (book .entry)) (now (knots .entry)) (now (values .entry))) .book ⌝ }
+    ensures { λ _. ⌜ now (knots .exit) ≡ (trainAsked (inputOf (now (g .entry)) (now (d .entry)) (now (nodes .entry)) (now (children .entry)) floor (now (sequences .entry)) s n rate) (now (book .entry)) (now (knots .entry)) (now (values .entry))) .knots ⌝ }
+    ensures { λ _. ⌜ now (values .exit) ≡ (trainAsked (inputOf (now (g .entry)) (now (d .entry)) (now (nodes .entry)) (now (children .entry)) floor (now (sequences .entry)) s n rate) (now (book .entry)) (now (knots .entry)) (now (values .entry))) .values ⌝ }
+    ensures { λ _. ⌜ now (count .exit) ≡ written itself ((trainAsked (inputOf (now (g .entry)) (now (d .entry)) (now (nodes .entry)) (now (children .entry)) floor (now (sequences .entry)) s n rate) (now (book .entry)) (now (knots .entry)) (now (values .entry))) .answer) (now (count .entry)) ⌝ }
+    ensures { λ _. ⌜ now («node_scale» .exit) ≡ scaleNamed ((trainAsked (inputOf (now (g .entry)) (now (d .entry)) (now (nodes .entry)) (now (children .entry)) floor (now (sequences .entry)) s n rate) (now (book .entry)) (now (knots .entry)) (now (values .entry))) .answer) (now («node_scale» .entry)) ⌝ }
+    ensures { λ _. ⌜ now («node_point» .exit) ≡ pointNamed ((trainAsked (inputOf (now (g .entry)) (now (d .entry)) (now (nodes .entry)) (now (children .entry)) floor (now (sequences .entry)) s n rate) (now (book .entry)) (now (knots .entry)) (now (values .entry))) .answer) (now («node_point» .entry)) ⌝ }
 {
     let answer = train(
         g,
         d,
         nodes,
         children,
+        floor,
         sequences,
         s,
         n,

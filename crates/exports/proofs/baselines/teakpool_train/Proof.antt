@@ -1,8 +1,11 @@
 -- The answer stands for the reading, and its parts are told; book, knots and values are as training leaves them.
 use mathlib.Core.Path.{ap, _∙_}
 use Prim.Native.Nat.{ℕ}
+use lib.IntN.{ℤ}
+use mir.Syntax.{w32}
+use mir.ValLaws.{toZ-ofZ}
 use Rattle.divergence.specs.Readings.{Reading}
-use Rattle.baseline.specs.Training.{TrainAnswer}
+use Rattle.baseline.specs.Training.{TrainAnswer, inputOf, trainAsked}
 use Rattle.exports.specs.Codes.{code, written, scaleNamed, pointNamed}
 use Rattle.exports.specs.Outputs.{itself}
 use borrow.Author.Needs.{needs}
@@ -28,7 +31,10 @@ returns : tie.Need-returns
 returns c =
     let trained = c .before .before .before .before .before .before .before .before .before .before in
     let start = trained .before .before .before .before .before .before .before .before .before .before .before .before in
-    let said = trained .train .ensures in
+    let said =
+    trained .train .ensures
+    ∙ ap (λ (floor : ℤ). trainAsked (inputOf (start .args .g .now) (start .args .d .now) (start .args .nodes .now) (start .args .children .now) floor (start .args .sequences .now) (start .args .s) (start .args .n) (start .args .rate)) (start .args .book .now) (start .args .knots .now) (start .args .values .now))
+    (toZ-ofZ w32 (start .args .floor) (start .fits .floor)) in
     let result = ap (λ (a : TrainAnswer). a .answer) said in
     let told = c .tell-trained .ensures in (
       told .0 ∙ ap code result,

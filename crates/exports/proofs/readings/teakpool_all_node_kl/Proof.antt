@@ -1,5 +1,8 @@
 -- The reading is of the tracker with these numbers, and its answer is told.
-use mathlib.Core.Path.{ap, _∙_}
+use mathlib.Core.Path.{ap, ap₂, _∙_}
+use lib.IntN.{ℤ}
+use mir.Syntax.{w32}
+use mir.ValLaws.{toZ-ofZ}
 use Rattle.priors.specs.Tables.{lentTables}
 use Rattle.priors.specs.Priors.{lentPriors}
 use Rattle.book.specs.declared.trackers.Tracker.{Tracker}
@@ -40,7 +43,7 @@ returns c =
     let d = start .args .d .now in
     let addresses = start .args .addresses .now in
     let figures = start .args .figures .now in
-    let same = ap (λ (t : Tracker). allAsked (seenOf t book queue) (lentTables g d) (lentPriors nodes children) (lentOutput addresses figures)) (made .tracker-of .ensures) in
+    let same = ap₂ (λ (t : Tracker) (floor : ℤ). allAsked (seenOf t book queue) (lentTables g d) (lentPriors nodes children floor) (lentOutput addresses figures)) (made .tracker-of .ensures) (toZ-ofZ w32 (start .args .floor) (start .fits .floor)) in
     let said = asked .all-node-kl .ensures ∙ same in
     let told = c .tell-all .ensures in
     let result = ap (λ (t : Telling AllResult). t .answer) said in (

@@ -1,5 +1,8 @@
 -- The reading is of the tracker with these numbers, and its answer is told.
-use mathlib.Core.Path.{ap, _∙_}
+use mathlib.Core.Path.{ap, ap₂, _∙_}
+use lib.IntN.{ℤ}
+use mir.Syntax.{w32}
+use mir.ValLaws.{toZ-ofZ}
 use Rattle.priors.specs.Tables.{lentTables}
 use Rattle.priors.specs.Priors.{lentPriors}
 use Rattle.book.specs.declared.trackers.Tracker.{Tracker}
@@ -31,7 +34,7 @@ returns c =
     let children = start .args .children .now in
     let g = start .args .g .now in
     let d = start .args .d .now in
-    let result = asked .kl-div-stats .ensures ∙ ap (λ (t : Tracker). statsAsked (seenOf t book queue) (lentTables g d) (lentPriors nodes children)) (made .tracker-of .ensures) in
+    let result = asked .kl-div-stats .ensures ∙ ap₂ (λ (t : Tracker) (floor : ℤ). statsAsked (seenOf t book queue) (lentTables g d) (lentPriors nodes children floor)) (made .tracker-of .ensures) (toZ-ofZ w32 (start .args .floor) (start .fits .floor)) in
     let told = c .tell-stats .ensures in (
       told .0 ∙ ap code result,
       (

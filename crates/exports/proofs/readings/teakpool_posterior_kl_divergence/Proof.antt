@@ -1,6 +1,7 @@
 -- The reading is of the tracker with these numbers, and its answer is told.
 use mathlib.Core.Path.{ap, ap₂, _∙_}
 use mir.Syntax.{w32}
+use mir.Val.{toZ, ofZ}
 use mir.ValLaws.{toZ-ofZ}
 use lib.IntN.{ℤ}
 use Rattle.priors.specs.Address.{rankOf}
@@ -11,7 +12,7 @@ use Rattle.book.specs.declared.trackers.Tracker.{Tracker}
 use Rattle.divergence.specs.Readings.{Reading}
 use Rattle.divergence.specs.Asked.{seenOf, klAsked}
 use Rattle.exports.specs.Codes.{code, written}
-use Rattle.exports.specs.Outputs.{itself}
+use Rattle.exports.specs.Outputs.{seenIn, itself}
 use borrow.Author.Needs.{needs}
 use Rattle.exports.proofs.readings.teakpool_posterior_kl_divergence.Statement.{statement}
 use Rattle.exports.proofs.readings.teakpool_posterior_kl_divergence.Tie as tie
@@ -37,8 +38,9 @@ returns c =
     let g = start .args .g .now in
     let d = start .args .d .now in
     let same =
-    ap₂ (λ (t : Tracker) (scale : ℤ). klAsked (seenOf t book queue) (lentTables g d) (lentPriors nodes children) (rankOf scale (start .args .point)))
-    (made .tracker-of .ensures) (toZ-ofZ w32 (start .args .scale) (start .fits .scale)) in
+    ap₂ (λ (t : Tracker) (scale : ℤ). klAsked (seenOf t book queue) (lentTables g d) (lentPriors nodes children (toZ w32 (ofZ w32 (start .args .floor)))) (rankOf scale (start .args .point)))
+    (made .tracker-of .ensures) (toZ-ofZ w32 (start .args .scale) (start .fits .scale))
+    ∙ ap (λ (floor : ℤ). klAsked (seenIn (start .args .state .now) book queue) (lentTables g d) (lentPriors nodes children floor) (rankOf (start .args .scale) (start .args .point))) (toZ-ofZ w32 (start .args .floor) (start .fits .floor)) in
     let result = asked .posterior-kl-divergence .ensures ∙ same in
     let told = c .tell-kl .ensures in (
       told .0 ∙ ap code result,

@@ -1,6 +1,7 @@
 -- The reading is of the tracker with these numbers, and its answer is told.
 use mathlib.Core.Path.{ap, ap₂, _∙_}
 use mir.Syntax.{w32}
+use mir.Val.{toZ, ofZ}
 use mir.ValLaws.{toZ-ofZ}
 use lib.IntN.{ℤ}
 use Rattle.priors.specs.Address.{rankOf}
@@ -10,7 +11,7 @@ use Rattle.divergence.specs.Readings.{Reading}
 use Rattle.divergence.specs.Asked.{seenOf, lentOutput, Telling, probAsked}
 use Rattle.divergence.specs.Answers.{VectorResult}
 use Rattle.exports.specs.Codes.{code, written}
-use Rattle.exports.specs.Outputs.{placesOf, endingOf}
+use Rattle.exports.specs.Outputs.{seenIn, placesOf, endingOf}
 use borrow.Author.Needs.{needs}
 use Rattle.exports.proofs.readings.teakpool_prob_vector.Statement.{statement}
 use Rattle.exports.proofs.readings.teakpool_prob_vector.Tie as tie
@@ -42,8 +43,9 @@ returns c =
     let addresses = start .args .addresses .now in
     let figures = start .args .figures .now in
     let same =
-    ap₂ (λ (t : Tracker) (scale : ℤ). probAsked (seenOf t book queue) (lentPriors nodes children) (rankOf scale (start .args .point)) (lentOutput addresses figures))
-    (made .tracker-of .ensures) (toZ-ofZ w32 (start .args .scale) (start .fits .scale)) in
+    ap₂ (λ (t : Tracker) (scale : ℤ). probAsked (seenOf t book queue) (lentPriors nodes children (toZ w32 (ofZ w32 (start .args .floor)))) (rankOf scale (start .args .point)) (lentOutput addresses figures))
+    (made .tracker-of .ensures) (toZ-ofZ w32 (start .args .scale) (start .fits .scale))
+    ∙ ap (λ (floor : ℤ). probAsked (seenIn (start .args .state .now) book queue) (lentPriors nodes children floor) (rankOf (start .args .scale) (start .args .point)) (lentOutput addresses figures)) (toZ-ofZ w32 (start .args .floor) (start .fits .floor)) in
     let said = asked .prob-vector .ensures ∙ same in
     let told = c .tell-vector .ensures in
     let result = ap (λ (t : Telling VectorResult). t .answer) said in (
