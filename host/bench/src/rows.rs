@@ -177,7 +177,7 @@ fn trainings(load: &mut Load, rounds: usize) {
             });
             let mut known = Vec::new();
             let other = timed(s * n, || {
-                known = oracle::train(&goko_priors, &given, rate).expect("goko trains").1;
+                known = oracle::train(&goko_priors, i32::MIN, &given, rate).expect("goko trains").1;
             });
             // A hash map's sums go in another order.
             assert!(same_figures(&trained, &known) || !hashbrown::ORDERED, "both have the same baseline");
