@@ -19,18 +19,26 @@ impl Tables {
 }
 
 /// Lent priors, owned.
-#[derive(Debug, Clone, Default, PartialEq, Eq)]
+#[derive(Debug, Clone, PartialEq, Eq)]
 pub struct PriorBytes {
     /// The node records.
     pub nodes: Vec<u8>,
     /// The child records.
     pub children: Vec<u8>,
+    /// The floor scale.
+    pub floor: i32,
+}
+
+impl Default for PriorBytes {
+    fn default() -> PriorBytes {
+        PriorBytes { nodes: Vec::new(), children: Vec::new(), floor: i32::MIN }
+    }
 }
 
 impl PriorBytes {
     /// The priors as lent.
     pub fn lent(&self) -> LentPriors<'_> {
-        LentPriors { nodes: &self.nodes, children: &self.children }
+        LentPriors { nodes: &self.nodes, children: &self.children, floor: self.floor }
     }
 }
 

@@ -3,7 +3,7 @@
 
 use crate::calls::PriorBytes;
 use crate::rng::Rng;
-use recount::Address;
+use recount::{record_bytes, Address};
 use std::ops::Range;
 
 /// One record of either kind.
@@ -14,6 +14,12 @@ struct Record {
     link: u32,
 }
 
+impl Record {
+    fn bytes(&self) -> Vec<u8> {
+        record_bytes(self.address, self.count, self.link)
+    }
+}
+
 /// Priors before they become bytes.
 struct Records {
     nodes: Vec<Record>,
@@ -22,18 +28,9 @@ struct Records {
 
 impl Records {
     fn bytes(&self) -> PriorBytes {
-        PriorBytes { nodes: record_bytes(&self.nodes), children: record_bytes(&self.children) }
+        let bytes = |records: &[Record]| records.iter().flat_map(Record::bytes).collect();
+        PriorBytes { nodes: bytes(&self.nodes), children: bytes(&self.children), ..PriorBytes::default() }
     }
-}
-
-fn record_bytes(records: &[Record]) -> Vec<u8> {
-    let bytes = |record: &Record| {
-        let mut bytes = record.address.bytes().to_vec();
-        bytes.extend(record.count.to_le_bytes());
-        bytes.extend(record.link.to_le_bytes());
-        bytes
-    };
-    records.iter().flat_map(bytes).collect()
 }
 
 /// Every node of the universe with every child, so that nothing gives 14. Counts are 1 to

@@ -103,7 +103,7 @@ impl<'a> Baseline<'a> {
         let (mut count, mut node) = (0, Address::default());
         let answer = archive::train(
             (tables.g, tables.d),
-            (priors.nodes, priors.children),
+            (priors.nodes, priors.children, i32::MIN),
             (sequences.places, sequences.s, sequences.n, sequences.rate),
             (book, knots, values),
             &mut count,

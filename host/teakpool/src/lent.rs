@@ -67,7 +67,7 @@ impl<'a> Priors<'a> {
     /// # Errors
     /// 3 to 7, each over all records before the next.
     pub fn check(&self) -> Result<(), Refusal> {
-        done(archive::check_priors((self.nodes, self.children)), Address::default())
+        done(archive::check_priors((self.nodes, self.children, i32::MIN)), Address::default())
     }
 }
 

@@ -245,7 +245,7 @@ impl<'m> Tracker<'m> {
         let (mut places, mut ending) = (0, 0.0);
         let answer = archive::prob_vector(
             (&self.state.words(), self.book, self.queue),
-            (priors.nodes, priors.children),
+            (priors.nodes, priors.children, i32::MIN),
             (node.scale, node.point),
             (output.addresses, output.figures),
             (&mut places, &mut ending),
@@ -301,7 +301,7 @@ impl<'m> Tracker<'m> {
         let mut value = 0.0;
         let answer = archive::posterior_kl_divergence(
             (&self.state.words(), self.book, self.queue),
-            (priors.nodes, priors.children),
+            (priors.nodes, priors.children, i32::MIN),
             (tables.g, tables.d),
             (node.scale, node.point),
             &mut value,
@@ -350,7 +350,7 @@ impl<'m> Tracker<'m> {
         let (mut counts, mut node) = ([0; 2], Address::default());
         let answer = archive::all_node_kl(
             (&self.state.words(), self.book, self.queue),
-            (priors.nodes, priors.children),
+            (priors.nodes, priors.children, i32::MIN),
             (tables.g, tables.d),
             (output.addresses, output.figures),
             &mut counts,
@@ -368,7 +368,7 @@ impl<'m> Tracker<'m> {
         let (mut figures, mut counts, mut node) = ([0.0; 4], [0; 3], Address::default());
         let answer = archive::kl_div_stats(
             (&self.state.words(), self.book, self.queue),
-            (priors.nodes, priors.children),
+            (priors.nodes, priors.children, i32::MIN),
             (tables.g, tables.d),
             &mut figures,
             &mut counts,

@@ -11,7 +11,7 @@ use cases::rng::Rng;
 use cases::{exhaustive, priors, sample, tables};
 use compare::{Compared, Tally};
 use recount::limits::{ENTRY_BYTES, KNOT_VALUES, MAX_CHILDREN, MAX_KNOTS, MAX_NODES, PLACE_BYTES};
-use recount::{path_bytes, Address};
+use recount::{path_bytes, record_bytes, Address};
 
 /// All of them.
 pub fn all(archive: &mut Archive, tally: &mut Tally) -> Compared {
@@ -37,8 +37,13 @@ pub fn all(archive: &mut Archive, tally: &mut Tally) -> Compared {
 const NODE: Address = Address::new(1, 7);
 const CHILD: Address = Address::new(0, 9);
 
-fn record(address: Address, count: u32, link: u32) -> Vec<u8> {
-    [&address.bytes()[..], &count.to_le_bytes(), &link.to_le_bytes()].concat()
+/// A node with its singleton count, and `CHILD` below it.
+fn one_child((node, singleton): (Address, u32), count: u32) -> PriorBytes {
+    PriorBytes {
+        nodes: record_bytes(node, singleton, 1),
+        children: record_bytes(CHILD, count, 0),
+        ..PriorBytes::default()
+    }
 }
 
 /// Readings with tables of each length, and priors whose U is the last index, or one past it.
@@ -48,7 +53,7 @@ fn table_lengths(archive: &mut Archive, tally: &mut Tally) -> Compared {
         check::tables(archive, &lent, tally)?;
         for total in [1, length as u32 - 1, length as u32] {
             let singleton = total.max(3) - 2;
-            let priors = PriorBytes { nodes: record(NODE, singleton, 1), children: record(CHILD, 1, 0) };
+            let priors = one_child((NODE, singleton), 1);
             let output = || Places { addresses: vec![0x11; 16], figures: vec![-1.0; 2] };
             let calls = vec![
                 Call::Open { window: 1, book_len: 4 * ENTRY_BYTES, queue_len: PLACE_BYTES },
@@ -72,11 +77,12 @@ fn prior_sizes(archive: &mut Archive, tally: &mut Tally) -> Compared {
     for (nodes, children) in
         [(MAX_NODES, MAX_CHILDREN), (MAX_NODES + 1, MAX_CHILDREN), (MAX_NODES, MAX_CHILDREN + 1)]
     {
-        let node = |index: usize| record(Address::new(3, index as u32), 1, (index % 9) as u32);
-        let child = |index: usize| record(Address::new(2, index as u32), 1, 0);
+        let node = |index: usize| record_bytes(Address::new(3, index as u32), 1, (index % 9) as u32);
+        let child = |index: usize| record_bytes(Address::new(2, index as u32), 1, 0);
         let lent = PriorBytes {
             nodes: (0..nodes).flat_map(node).collect(),
             children: (0..children).flat_map(child).collect(),
+            ..PriorBytes::default()
         };
         check::priors(archive, &lent, tally)?;
     }
@@ -90,7 +96,7 @@ fn knots(archive: &mut Archive, tally: &mut Tally) -> Compared {
         place.resize(PLACE_BYTES, 0x3c);
         let training = Training {
             tables: tables::gamma(2_000),
-            priors: PriorBytes { nodes: record(NODE, 2, 1), children: record(CHILD, 3, 0) },
+            priors: one_child((NODE, 2), 3),
             book: vec![0xff; 3 * ENTRY_BYTES],
             sequences: 2,
             paths: paths as u32,
