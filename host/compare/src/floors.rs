@@ -13,10 +13,10 @@ const NAMED: &str = "refusals by 14 or 15 that name a node whose prior's record 
 const CLASHES: &str = "readings refused with 22";
 const TRAININGS: &str = "trainings that find a prior by point alone";
 const TRAINING_CLASHES: &str = "trainings refused with 22";
-const WITH_GOKO: &str = "answers held against goko's that find a prior by point alone";
+const WITH_GOKO: &str = "calls held against goko that find a prior by point alone";
 const PAST_32_BITS: &str = "calls not compared with goko, whose index of a layer leaves 32 bits";
 
-/// All that is to be met, and what goko is needed for.
+/// What is to be met without goko and with it.
 const MET: [&str; 7] = [BY_POINT, SHARED, KEPT_APART, NAMED, CLASHES, TRAININGS, TRAINING_CLASHES];
 const MET_WITH_GOKO: [&str; 2] = [WITH_GOKO, PAST_32_BITS];
 
@@ -74,17 +74,24 @@ impl Floors {
     /// Prints how often each was met.
     pub fn print(&self) {
         println!("with floors:");
-        for (what, count) in &self.0 {
-            println!("  {} {}", count, what);
+        for what in to_be_met() {
+            println!("  {} {}", self.met(what), what);
         }
     }
 
     /// What was not met at all.
     pub fn missing(&self) -> Vec<&'static str> {
-        let with_goko = MET_WITH_GOKO.iter().filter(|_| oracle::PRESENT);
-        let missed = |what: &&&'static str| self.0.get(**what).is_none_or(|count| *count == 0);
-        MET.iter().chain(with_goko).filter(missed).copied().collect()
+        to_be_met().filter(|what| self.met(what) == 0).collect()
     }
+
+    fn met(&self, what: &str) -> u64 {
+        self.0.get(what).copied().unwrap_or(0)
+    }
+}
+
+/// All that is to be met, as far as goko's sources are there.
+fn to_be_met() -> impl Iterator<Item = &'static str> {
+    MET.into_iter().chain(MET_WITH_GOKO.into_iter().filter(|_| oracle::PRESENT))
 }
 
 /// Priors that are not refused, where some scale is below their floor.

@@ -95,11 +95,11 @@ impl Tally {
             self.lists, self.altered
         );
         println!("the recount's results by refusal number, 0 for an answer: {:?}", self.numbers);
-        self.print_goko();
+        self.print_rest();
     }
 
-    /// Prints what was met of floors, and what was held against goko, if its sources were there.
-    pub fn print_goko(&self) {
+    /// Prints what was met of floors and, if goko's sources were there, what was held against it.
+    pub fn print_rest(&self) {
         self.floors.print();
         if oracle::PRESENT {
             println!("with goko, {} figures bit for bit:", self.figures);

@@ -67,7 +67,7 @@ fn main() -> ExitCode {
                 tally.lists, tally.altered, calls
             );
             println!("results by refusal number, 0 for an answer: {:?}", tally.numbers);
-            tally.print_goko();
+            tally.print_rest();
             println!("the comparison at scale took {} s", started.elapsed().as_secs());
             ExitCode::SUCCESS
         }
