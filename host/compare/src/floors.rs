@@ -8,7 +8,7 @@ use std::collections::{BTreeMap, BTreeSet};
 
 const BY_POINT: &str = "readings that find a prior by point alone";
 const SHARED: &str = "readings of all nodes in which two have one prior";
-const KEPT_APART: &str = "readings of a node whose point has a record on the other side of the floor alone";
+const KEPT_APART: &str = "readings with a node whose point has a record on the other side of the floor alone";
 const NAMED: &str = "refusals by 14 or 15 that name a node whose prior's record has another address";
 const CLASHES: &str = "readings refused with 22";
 const TRAININGS: &str = "trainings that find a prior by point alone";
