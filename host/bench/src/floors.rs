@@ -19,7 +19,6 @@ const FEW: usize = 20;
 
 /// All rows.
 pub fn print(rounds: usize) {
-    println!();
     head("with a floor", "without", rounds);
     ten_scales(rounds);
     scales_of_their_own(rounds);

@@ -55,6 +55,7 @@ fn main() -> ExitCode {
 fn run(given: &Arguments) {
     if !given.floors_alone {
         rows::print(given.rounds);
+        println!();
     }
     floors::print(given.rounds);
 }
