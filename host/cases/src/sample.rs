@@ -89,13 +89,13 @@ pub fn reading_lists() -> Vec<CallList> {
     random.chain(zeros).chain(floored).chain([around_a_floor()]).collect()
 }
 
-/// Two listed nodes below the floor with one prior, whose record has a third scale, and one at the floor
-/// with its own; then no floor, one that is refused, and the first again with a child that the prior
-/// lacks.
+/// Two listed nodes below the floor with one prior, whose record has the address of the first, and one
+/// at the floor with its own; then no floor, one that is refused, and the first floor again with a child
+/// that the prior lacks.
 fn around_a_floor() -> CallList {
     let at = |scale: i32| Address::new(scale, 7);
     let lend = |floor: i32| {
-        let nodes = [record_bytes(at(-5), 1, 1), record_bytes(at(0), 2, 0)].concat();
+        let nodes = [record_bytes(at(-3), 1, 1), record_bytes(at(0), 2, 0)].concat();
         let children = [record_bytes(at(-3), 2, 2), record_bytes(at(-1), 1, 0)].concat();
         Call::LendPriors(PriorBytes { nodes, children, floor })
     };
@@ -223,7 +223,7 @@ fn floored_priors(rng: &mut Rng) -> PriorsCase {
 
 /// Records at the ends of the scales' range, with a floor there.
 fn priors_at_the_ends(floor: i32) -> PriorsCase {
-    let records = [(i32::MIN, 7), (i32::MAX - 1, 7), (i32::MAX, 3)];
+    let records = [(i32::MIN, 7), (0, 5), (i32::MAX - 1, 7), (i32::MAX, 3)];
     let node = |(scale, point): (i32, u32)| record_bytes(Address::new(scale, point), point, 0);
     let priors =
         PriorBytes { nodes: records.into_iter().flat_map(node).collect(), floor, ..PriorBytes::default() };
