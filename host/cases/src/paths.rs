@@ -15,9 +15,14 @@ pub const FOREIGN: Address = Address::new(5, 5);
 
 /// `count` different addresses, at most 64.
 pub fn universe(rng: &mut Rng, count: usize) -> Vec<Address> {
+    different(count, || Address::new(rng.pick(&SCALES), rng.pick(&POINTS)))
+}
+
+/// `count` different addresses of those that `next` gives.
+fn different(count: usize, mut next: impl FnMut() -> Address) -> Vec<Address> {
     let mut addresses: Vec<Address> = Vec::new();
     while addresses.len() < count {
-        let address = Address::new(rng.pick(&SCALES), rng.pick(&POINTS));
+        let address = next();
         if !addresses.contains(&address) {
             addresses.push(address);
         }
@@ -34,26 +39,18 @@ pub fn floor(rng: &mut Rng, percent: usize) -> i32 {
     }
 }
 
-/// `count` different addresses, at most 8; with a floor on both sides of it, with few points, so
-/// that some share one.
+/// `count` different addresses, at most 8; where scales are below the floor, on both sides of it and
+/// with few points, so that some share one.
 pub fn universe_around(rng: &mut Rng, count: usize, floor: i32) -> Vec<Address> {
     if floor == i32::MIN {
         return universe(rng, count);
     }
     let points = [rng.pick(&POINTS), rng.pick(&POINTS), 7];
-    let mut addresses: Vec<Address> = Vec::new();
-    while addresses.len() < count {
-        let scale = if rng.chance(70) {
-            below(rng, floor)
-        } else {
-            rng.pick(&[floor, floor.saturating_add(1), i32::MAX])
-        };
-        let address = Address::new(scale, rng.pick(&points));
-        if !addresses.contains(&address) {
-            addresses.push(address);
-        }
-    }
-    addresses
+    let above = [floor, floor.saturating_add(1), i32::MAX];
+    different(count, || {
+        let scale = if rng.chance(70) { below(rng, floor) } else { rng.pick(&above) };
+        Address::new(scale, rng.pick(&points))
+    })
 }
 
 /// A scale below the floor, which is not the least.
