@@ -14,12 +14,12 @@
  *   TEAKPOOL_DONE (0)    the call is carried out and its answer is written;
  *   TEAKPOOL_NONE (100)  there is no answer, goko's None, and nothing is written: the node asked for has no prior, is not listed, or
  *                        is listed with a total of 0. Each function that can return it says when;
- *   1 to 18              the call is refused, by the numbers of `enum teakpool_refusal`. Nothing is written, but 14 and 15 write
+ *   1 to 18, 22          the call is refused, by the numbers of `enum teakpool_refusal`. Nothing is written, but 14 and 15 write
  *                        node_scale and node_point where the call has them, and a training that 10, 12, 14 or 15 stops leaves its
  *                        book, knots and values all zero to their ends.
- * Where several numbers hold the lowest is returned, with two exceptions. 14 and 15 go by node: the first listed node, ascending,
- * that has one of them decides, and in that node 14 comes before 15. Training tests 16 after 9 and 13 after 16, and then returns the
- * first of 10, 12, 14 and 15 that its work meets.
+ * Where several numbers hold the lowest is returned, with three exceptions. 22 comes right after 7. 14 and 15 go by node: the first
+ * listed node, ascending, that has one of them decides, and in that node 14 comes before 15. Training tests 16 after 9 and 13 after
+ * 16, and then returns the first of 10, 12, 14 and 15 that its work meets.
  *
  * Memory. The caller owns all of it. The library allocates nothing, keeps no pointer and no state after a call, prints nothing and
  * never ends the program. A tracker is what stands in `state`, `book` and `queue`: it may be copied, saved and moved as bytes. Calls
@@ -56,6 +56,15 @@
  *   sequences       516 bytes a path, as in a queue; bytes after its steps are not read
  *   tables          g[k] is ln gamma at k and d[k] is digamma at k; index 0 is never read
  *
+ * Floor. Priors are lent with a floor, which is a scale. A node whose scale is below the floor has the prior of the node record that
+ * is below the floor too and has its point, whatever the scale of that record is; every other node has that of the record with its
+ * exact address. Below is strictly below: the scale of the floor itself is exact. So a record at or above the floor is never found
+ * from below, nor one below it from above, and two records below it may not have one point (22). Listed nodes below the floor that
+ * have one point share a prior, each with its own evidence and its own place in an answer; 14 and 15 name the listed node. Children
+ * in a chain and entries of a book go by exact address, whatever the floor is. INT32_MIN is no floor: every look-up is exact.
+ * goko puts all scales under its tree's `min_res_index` into one layer, where the point alone finds a node. So whoever has a goko
+ * tree lends its min_res_index as the floor; otherwise nodes are skipped that goko finds.
+ *
  * Figures. They are the same where their 64 bits are, and any NaN is the same as any NaN: plus zero and minus zero are two figures.
  * No reading tells minus zero: not as a divergence, nor as a probability, nor in the statistics. Divergences and probabilities are not
  * below 0 either, so their 64 bits, as unsigned numbers, ascend as the figures do. teakpool_stats can give minus zero, of values that
@@ -89,9 +98,9 @@
 
 /* The version of this header; teakpool_version() tells that of the archive. CHANGELOG.md says what counts as a break. */
 #define TEAKPOOL_VERSION_MAJOR 0u
-#define TEAKPOOL_VERSION_MINOR 1u
+#define TEAKPOOL_VERSION_MINOR 2u
 #define TEAKPOOL_VERSION_PATCH 0u
-#define TEAKPOOL_VERSION_STRING "0.1.0"
+#define TEAKPOOL_VERSION_STRING "0.2.0"
 #define TEAKPOOL_VERSION (1000000u * TEAKPOOL_VERSION_MAJOR + 1000u * TEAKPOOL_VERSION_MINOR + TEAKPOOL_VERSION_PATCH)
 
 /* A call's answer is to be looked at, and none of its pointers is NULL. */
@@ -147,7 +156,8 @@ enum teakpool_refusal {
     TEAKPOOL_PAST_TABLE = 15,     /* prior total plus evidence total past the last table index */
     TEAKPOOL_TRAINING_INPUT = 16, /* rate 0; s, n or byte count wrong; over 1,024 knots */
     TEAKPOOL_BASELINE_INPUT = 17, /* s not 1 to 64; knots not rising or over 1,024; values not ten a knot */
-    TEAKPOOL_ONE_KNOT = 18        /* one knot and a length past it */
+    TEAKPOOL_ONE_KNOT = 18,       /* one knot and a length past it */
+    TEAKPOOL_SHARED_POINT = 22    /* two node records below the floor have one point */
 };
 
 /* The version of the archive, as TEAKPOOL_VERSION has it. Where they differ, this header is another version's. */
@@ -159,7 +169,7 @@ uint32_t teakpool_version(void);
 TEAKPOOL_CALL
 uint32_t teakpool_check_tables(const double *g, size_t g_length, const double *d, size_t d_length);
 
-/* Tests prior records. Both slices may be empty.
+/* Tests prior records with their floor. Both slices may be empty.
  * Limits: at most 4,096 node records and 16,384 child records of 16 bytes; at most 64 records in a node's chain.
  * Refused, each number over all records before the next:
  *   3  a length that is no multiple of 16, or too many records;
@@ -167,10 +177,12 @@ uint32_t teakpool_check_tables(const double *g, size_t g_length, const double *d
  *   5  a first link past the last child record; a next link that is past it, or is not 0 and does not exceed the number of its own
  *      record; a node's chain of over 64 records;
  *   6  a node's chain not strictly ascending;
- *   7  a child count of 0; a node whose singleton count and chain's counts add up to 0.
+ *   7  a child count of 0; a node whose singleton count and chain's counts add up to 0;
+ *   22 two node records below the floor that have one point.
  * Links and child counts are tested in every record, whether a node's chain reaches it or not. */
 TEAKPOOL_CALL
-uint32_t teakpool_check_priors(const uint8_t *nodes, size_t nodes_length, const uint8_t *children, size_t children_length);
+uint32_t teakpool_check_priors(const uint8_t *nodes, size_t nodes_length, const uint8_t *children, size_t children_length,
+                               int32_t floor);
 
 /* Opens a tracker. Book and queue are zeroed to their ends, whatever they held; state becomes window, 0, 0. A window of 0 keeps
  * every path counted. After p accepted paths of s steps in all, at most 2s - p entries of the book are used.
@@ -194,12 +206,12 @@ uint32_t teakpool_add_path(uint32_t state[3], uint8_t *book, size_t book_length,
 /* The probabilities of a node's children and of its ending, of prior and evidence together: each count divided by the total. The
  * children of both fill the places, ascending, zero counts included; places is their number, ending the ending's probability.
  * None if the node has no prior. One that is not listed has no evidence, and is answered by its prior.
- * Refused: 3 to 7 as in teakpool_check_priors; 9 if the form is broken; 13 if there are fewer places than children. */
+ * Refused: 3 to 7 and 22 as in teakpool_check_priors; 9 if the form is broken; 13 if there are fewer places than children. */
 TEAKPOOL_CALL
 uint32_t teakpool_prob_vector(const uint32_t state[3], const uint8_t *book, size_t book_length, const uint8_t *queue,
                               size_t queue_length, const uint8_t *nodes, size_t nodes_length, const uint8_t *children,
-                              size_t children_length, int32_t scale, uint32_t point, uint8_t *addresses, size_t addresses_length,
-                              double *figures, size_t figures_length, uint32_t *places, double *ending);
+                              size_t children_length, int32_t floor, int32_t scale, uint32_t point, uint8_t *addresses,
+                              size_t addresses_length, double *figures, size_t figures_length, uint32_t *places, double *ending);
 
 /* The same of the evidence alone. None if the node is not listed, or is listed and its total is 0.
  * Refused: 9 if the form is broken; 13 if there are fewer places than children. */
@@ -210,25 +222,26 @@ uint32_t teakpool_evidence_prob_vector(const uint32_t state[3], const uint8_t *b
                                        double *ending);
 
 /* The divergence of one node's evidence from its prior. None if the node is not listed or has no prior.
- * Refused: 1 and 2 as in teakpool_check_tables; 3 to 7 as in teakpool_check_priors; 9 if the form is broken; 14 if a child listed
- * under the node, zero count included, is not in its prior; 15 if its prior total plus its evidence total exceeds g_length - 1.
- * These two are of the node asked for, so none is named. */
+ * Refused: 1 and 2 as in teakpool_check_tables; 3 to 7 and 22 as in teakpool_check_priors; 9 if the form is broken; 14 if a child
+ * listed under the node, zero count included, is not in its prior; 15 if its prior total plus its evidence total exceeds
+ * g_length - 1. These two are of the node asked for, so none is named. */
 TEAKPOOL_CALL
 uint32_t teakpool_posterior_kl_divergence(const uint32_t state[3], const uint8_t *book, size_t book_length, const uint8_t *queue,
                                           size_t queue_length, const uint8_t *nodes, size_t nodes_length,
-                                          const uint8_t *children, size_t children_length, const double *g, size_t g_length,
-                                          const double *d, size_t d_length, int32_t scale, uint32_t point, double *value);
+                                          const uint8_t *children, size_t children_length, int32_t floor, const double *g,
+                                          size_t g_length, const double *d, size_t d_length, int32_t scale, uint32_t point,
+                                          double *value);
 
 /* The divergences of all listed nodes that have a prior, ascending, a place each. counts is places filled, nodes skipped because
  * they have no prior.
- * Refused: 1 and 2 as in teakpool_check_tables; 3 to 7 as in teakpool_check_priors; 9 if the form is broken; 13 if there are fewer
- * places than listed nodes with a prior; then 14 and 15 as in teakpool_posterior_kl_divergence, by node ascending, with the node in
- * node_scale and node_point. */
+ * Refused: 1 and 2 as in teakpool_check_tables; 3 to 7 and 22 as in teakpool_check_priors; 9 if the form is broken; 13 if there are
+ * fewer places than listed nodes with a prior; then 14 and 15 as in teakpool_posterior_kl_divergence, by node ascending, with the
+ * node in node_scale and node_point. */
 TEAKPOOL_CALL
 uint32_t teakpool_all_node_kl(const uint32_t state[3], const uint8_t *book, size_t book_length, const uint8_t *queue,
                               size_t queue_length, const uint8_t *nodes, size_t nodes_length, const uint8_t *children,
-                              size_t children_length, const double *g, size_t g_length, const double *d, size_t d_length,
-                              uint8_t *addresses, size_t addresses_length, double *figures, size_t figures_length,
+                              size_t children_length, int32_t floor, const double *g, size_t g_length, const double *d,
+                              size_t d_length, uint8_t *addresses, size_t addresses_length, double *figures, size_t figures_length,
                               uint32_t counts[2], int32_t *node_scale, uint32_t *node_point);
 
 /* The statistics of those divergences that lie strictly above 1.0e-10. figures is maximum, minimum, sum, sum of squares; counts is
@@ -237,8 +250,8 @@ uint32_t teakpool_all_node_kl(const uint32_t state[3], const uint8_t *book, size
 TEAKPOOL_CALL
 uint32_t teakpool_kl_div_stats(const uint32_t state[3], const uint8_t *book, size_t book_length, const uint8_t *queue,
                                size_t queue_length, const uint8_t *nodes, size_t nodes_length, const uint8_t *children,
-                               size_t children_length, const double *g, size_t g_length, const double *d, size_t d_length,
-                               double figures[4], uint64_t counts[3], int32_t *node_scale, uint32_t *node_point);
+                               size_t children_length, int32_t floor, const double *g, size_t g_length, const double *d,
+                               size_t d_length, double figures[4], uint64_t counts[3], int32_t *node_scale, uint32_t *node_point);
 
 /* Trains a baseline on s sequences of n paths, which lie one sequence after the other. Each sequence runs through a fresh tracker of
  * window 0 in the book; after path i, from 0, where i mod rate is 0, the statistics enter the knot of sequence length i + 1. A knot
@@ -249,17 +262,17 @@ uint32_t teakpool_kl_div_stats(const uint32_t state[3], const uint8_t *book, siz
  * Limits: s 1 to 64; n 0 to 65,536; rate at least 1; sequences_length exactly 516 x s x n; at most 1,024 knots; book_length a
  * multiple of 24, 24 to 393,216; knots_length at least the number of knots and values_length at least ten times that; the length of
  * each path 1 to 64.
- * Refused before the work, in this order, and nothing changes: 1 and 2 as in teakpool_check_tables; 3 to 7 as in
+ * Refused before the work, in this order, and nothing changes: 1 and 2 as in teakpool_check_tables; 3 to 7 and 22 as in
  * teakpool_check_priors; 9 for book_length; 16 for s, n, rate, sequences_length or the number of knots; 13 for knots_length or
  * values_length.
  * Stopped in the work: for each path 10 for its length, then 12 if the book is too small for it, then, at a knot, 14 and 15 as in
  * teakpool_all_node_kl. Book, knots and values are then all zero to their ends, and count is as it was. */
 TEAKPOOL_CALL
 uint32_t teakpool_train(const double *g, size_t g_length, const double *d, size_t d_length, const uint8_t *nodes,
-                        size_t nodes_length, const uint8_t *children, size_t children_length, const uint8_t *sequences,
-                        size_t sequences_length, uint32_t s, uint32_t n, uint32_t rate, uint8_t *book, size_t book_length,
-                        uint32_t *knots, size_t knots_length, double *values, size_t values_length, uint32_t *count,
-                        int32_t *node_scale, uint32_t *node_point);
+                        size_t nodes_length, const uint8_t *children, size_t children_length, int32_t floor,
+                        const uint8_t *sequences, size_t sequences_length, uint32_t s, uint32_t n, uint32_t rate, uint8_t *book,
+                        size_t book_length, uint32_t *knots, size_t knots_length, double *values, size_t values_length,
+                        uint32_t *count, int32_t *node_scale, uint32_t *node_point);
 
 /* A baseline's figures at a sequence length: mean and variance of maximum, minimum, number, sum and sum of squares. Between two
  * knots they lie on the straight line through them, past the last on the line through the last two; below the first, and with no
@@ -327,17 +340,47 @@ static inline struct teakpool_tables teakpool_make_tables(struct teakpool_g g, s
     return tables;
 }
 
-/* The priors: node records and child records. */
+/* The floor of priors. It is kept as the distance of its scale from INT32_MIN, so that a struct filled with zeros has no floor, and
+ * not unnoticed the floor 0. */
+struct teakpool_floor {
+    uint32_t above_least;
+};
+
+static inline struct teakpool_floor teakpool_make_floor(int32_t scale)
+{
+    struct teakpool_floor made;
+    made.above_least = (uint32_t)((int64_t)scale - INT32_MIN);
+    return made;
+}
+
+/* The scale of a floor, INT32_MIN for none. */
+static inline int32_t teakpool_floor_scale(struct teakpool_floor floor)
+{
+    return (int32_t)((int64_t)floor.above_least + INT32_MIN);
+}
+
+/* The priors: node records and child records, and a floor. */
 struct teakpool_priors {
     struct teakpool_nodes nodes;
     struct teakpool_children children;
+    struct teakpool_floor floor;
 };
 
+/* Priors as they are made have no floor; teakpool_priors_with_floor gives them one. */
 static inline struct teakpool_priors teakpool_make_priors(struct teakpool_nodes nodes, struct teakpool_children children)
 {
     struct teakpool_priors priors;
     priors.nodes = nodes;
     priors.children = children;
+    priors.floor = teakpool_make_floor(INT32_MIN);
+    return priors;
+}
+
+/* The same priors with this floor, which is min_res_index where they are those of a goko tree. */
+TEAKPOOL_CALL
+static inline struct teakpool_priors teakpool_priors_with_floor(struct teakpool_priors priors, struct teakpool_floor floor)
+{
+    priors.floor = floor;
     return priors;
 }
 
@@ -491,7 +534,8 @@ static inline uint32_t teakpool_tables_check(struct teakpool_tables tables)
 TEAKPOOL_CALL
 static inline uint32_t teakpool_priors_check(struct teakpool_priors priors)
 {
-    return teakpool_check_priors(priors.nodes.at, priors.nodes.length, priors.children.at, priors.children.length);
+    return teakpool_check_priors(priors.nodes.at, priors.nodes.length, priors.children.at, priors.children.length,
+                                 teakpool_floor_scale(priors.floor));
 }
 
 TEAKPOOL_CALL
@@ -513,9 +557,10 @@ static inline uint32_t teakpool_tracker_prob_vector(const struct teakpool_tracke
                                                     struct teakpool_vector *vector)
 {
     return teakpool_prob_vector(tracker->state, tracker->book.at, tracker->book.length, tracker->queue.at, tracker->queue.length,
-                                priors.nodes.at, priors.nodes.length, priors.children.at, priors.children.length, node.scale,
-                                node.point, output.addresses, TEAKPOOL_STEP_SIZE * output.places, output.figures, output.places,
-                                &vector->places, &vector->ending);
+                                priors.nodes.at, priors.nodes.length, priors.children.at, priors.children.length,
+                                teakpool_floor_scale(priors.floor), node.scale, node.point, output.addresses,
+                                TEAKPOOL_STEP_SIZE * output.places, output.figures, output.places, &vector->places,
+                                &vector->ending);
 }
 
 TEAKPOOL_CALL
@@ -535,8 +580,8 @@ static inline uint32_t teakpool_tracker_posterior_kl_divergence(const struct tea
 {
     return teakpool_posterior_kl_divergence(tracker->state, tracker->book.at, tracker->book.length, tracker->queue.at,
                                             tracker->queue.length, priors.nodes.at, priors.nodes.length, priors.children.at,
-                                            priors.children.length, tables.g.at, tables.g.length, tables.d.at, tables.d.length,
-                                            node.scale, node.point, value);
+                                            priors.children.length, teakpool_floor_scale(priors.floor), tables.g.at,
+                                            tables.g.length, tables.d.at, tables.d.length, node.scale, node.point, value);
 }
 
 TEAKPOOL_CALL
@@ -547,9 +592,9 @@ static inline uint32_t teakpool_tracker_all_node_kl(const struct teakpool_tracke
     uint32_t counts[2];
     uint32_t code = teakpool_all_node_kl(
         tracker->state, tracker->book.at, tracker->book.length, tracker->queue.at, tracker->queue.length, priors.nodes.at,
-        priors.nodes.length, priors.children.at, priors.children.length, tables.g.at, tables.g.length, tables.d.at, tables.d.length,
-        output.addresses, TEAKPOOL_STEP_SIZE * output.places, output.figures, output.places, counts, &list->node.scale,
-        &list->node.point);
+        priors.nodes.length, priors.children.at, priors.children.length, teakpool_floor_scale(priors.floor), tables.g.at,
+        tables.g.length, tables.d.at, tables.d.length, output.addresses, TEAKPOOL_STEP_SIZE * output.places, output.figures,
+        output.places, counts, &list->node.scale, &list->node.point);
     if (code == TEAKPOOL_DONE) {
         list->places = counts[0];
         list->skipped = counts[1];
@@ -565,8 +610,9 @@ static inline uint32_t teakpool_tracker_kl_div_stats(const struct teakpool_track
     uint64_t counts[3];
     uint32_t code = teakpool_kl_div_stats(tracker->state, tracker->book.at, tracker->book.length, tracker->queue.at,
                                           tracker->queue.length, priors.nodes.at, priors.nodes.length, priors.children.at,
-                                          priors.children.length, tables.g.at, tables.g.length, tables.d.at, tables.d.length,
-                                          figures, counts, &statistics->node.scale, &statistics->node.point);
+                                          priors.children.length, teakpool_floor_scale(priors.floor), tables.g.at,
+                                          tables.g.length, tables.d.at, tables.d.length, figures, counts, &statistics->node.scale,
+                                          &statistics->node.point);
     if (code == TEAKPOOL_DONE) {
         statistics->maximum = figures[0];
         statistics->minimum = figures[1];
@@ -612,10 +658,11 @@ static inline uint32_t teakpool_baseline_train(struct teakpool_baseline *baselin
                                                struct teakpool_book book)
 {
     uint32_t code = teakpool_train(tables.g.at, tables.g.length, tables.d.at, tables.d.length, priors.nodes.at, priors.nodes.length,
-                                   priors.children.at, priors.children.length, sequences.at, sequences.length,
-                                   sequences.s.number, sequences.n.number, sequences.rate.number, book.at, book.length,
-                                   baseline->knots, baseline->room, baseline->values, TEAKPOOL_KNOT_VALUES * baseline->room,
-                                   &baseline->count, &baseline->node.scale, &baseline->node.point);
+                                   priors.children.at, priors.children.length, teakpool_floor_scale(priors.floor), sequences.at,
+                                   sequences.length, sequences.s.number, sequences.n.number, sequences.rate.number, book.at,
+                                   book.length, baseline->knots, baseline->room, baseline->values,
+                                   TEAKPOOL_KNOT_VALUES * baseline->room, &baseline->count, &baseline->node.scale,
+                                   &baseline->node.point);
     if (code == TEAKPOOL_DONE) {
         baseline->s = sequences.s.number;
     } else if (code == TEAKPOOL_PATH_LENGTH || code == TEAKPOOL_BOOK_FULL || code == TEAKPOOL_MISSING_CHILD ||

@@ -44,6 +44,14 @@ static void tracker_seen(const uint32_t *state, const uint8_t *its_book, size_t 
     slice(its_queue, queue_length);
 }
 
+static void priors_seen(const uint8_t *its_nodes, size_t nodes_length, const uint8_t *its_children, size_t children_length,
+                        int32_t floor)
+{
+    slice(its_nodes, nodes_length);
+    slice(its_children, children_length);
+    number((uint64_t)(int64_t)floor);
+}
+
 static void node_named(int32_t *node_scale, uint32_t *node_point)
 {
     if (answer == TEAKPOOL_MISSING_CHILD || answer == TEAKPOOL_PAST_TABLE) {
@@ -61,10 +69,10 @@ uint32_t teakpool_check_tables(const double *g_at, size_t g_length, const double
     return answer;
 }
 
-uint32_t teakpool_check_priors(const uint8_t *nodes_at, size_t nodes_length, const uint8_t *children_at, size_t children_length)
+uint32_t teakpool_check_priors(const uint8_t *nodes_at, size_t nodes_length, const uint8_t *children_at, size_t children_length,
+                               int32_t floor)
 {
-    slice(nodes_at, nodes_length);
-    slice(children_at, children_length);
+    priors_seen(nodes_at, nodes_length, children_at, children_length, floor);
     return answer;
 }
 
@@ -98,12 +106,11 @@ static void vector_seen(int32_t scale, uint32_t point, uint8_t *addresses_at, si
 
 uint32_t teakpool_prob_vector(const uint32_t state[3], const uint8_t *book_at, size_t book_length, const uint8_t *queue_at,
                               size_t queue_length, const uint8_t *nodes_at, size_t nodes_length, const uint8_t *children_at,
-                              size_t children_length, int32_t scale, uint32_t point, uint8_t *addresses_at,
+                              size_t children_length, int32_t floor, int32_t scale, uint32_t point, uint8_t *addresses_at,
                               size_t addresses_length, double *figures_at, size_t figures_length, uint32_t *places, double *ending)
 {
     tracker_seen(state, book_at, book_length, queue_at, queue_length);
-    slice(nodes_at, nodes_length);
-    slice(children_at, children_length);
+    priors_seen(nodes_at, nodes_length, children_at, children_length, floor);
     vector_seen(scale, point, addresses_at, addresses_length, figures_at, figures_length, places, ending);
     return answer;
 }
@@ -120,13 +127,12 @@ uint32_t teakpool_evidence_prob_vector(const uint32_t state[3], const uint8_t *b
 
 uint32_t teakpool_posterior_kl_divergence(const uint32_t state[3], const uint8_t *book_at, size_t book_length,
                                           const uint8_t *queue_at, size_t queue_length, const uint8_t *nodes_at,
-                                          size_t nodes_length, const uint8_t *children_at, size_t children_length,
+                                          size_t nodes_length, const uint8_t *children_at, size_t children_length, int32_t floor,
                                           const double *g_at, size_t g_length, const double *d_at, size_t d_length, int32_t scale,
                                           uint32_t point, double *value)
 {
     tracker_seen(state, book_at, book_length, queue_at, queue_length);
-    slice(nodes_at, nodes_length);
-    slice(children_at, children_length);
+    priors_seen(nodes_at, nodes_length, children_at, children_length, floor);
     slice(g_at, g_length);
     slice(d_at, d_length);
     number((uint64_t)(int64_t)scale);
@@ -137,13 +143,12 @@ uint32_t teakpool_posterior_kl_divergence(const uint32_t state[3], const uint8_t
 
 uint32_t teakpool_all_node_kl(const uint32_t state[3], const uint8_t *book_at, size_t book_length, const uint8_t *queue_at,
                               size_t queue_length, const uint8_t *nodes_at, size_t nodes_length, const uint8_t *children_at,
-                              size_t children_length, const double *g_at, size_t g_length, const double *d_at, size_t d_length,
-                              uint8_t *addresses_at, size_t addresses_length, double *figures_at, size_t figures_length,
-                              uint32_t counts[2], int32_t *node_scale, uint32_t *node_point)
+                              size_t children_length, int32_t floor, const double *g_at, size_t g_length, const double *d_at,
+                              size_t d_length, uint8_t *addresses_at, size_t addresses_length, double *figures_at,
+                              size_t figures_length, uint32_t counts[2], int32_t *node_scale, uint32_t *node_point)
 {
     tracker_seen(state, book_at, book_length, queue_at, queue_length);
-    slice(nodes_at, nodes_length);
-    slice(children_at, children_length);
+    priors_seen(nodes_at, nodes_length, children_at, children_length, floor);
     slice(g_at, g_length);
     slice(d_at, d_length);
     slice(addresses_at, addresses_length);
@@ -160,12 +165,11 @@ uint32_t teakpool_all_node_kl(const uint32_t state[3], const uint8_t *book_at, s
 
 uint32_t teakpool_kl_div_stats(const uint32_t state[3], const uint8_t *book_at, size_t book_length, const uint8_t *queue_at,
                                size_t queue_length, const uint8_t *nodes_at, size_t nodes_length, const uint8_t *children_at,
-                               size_t children_length, const double *g_at, size_t g_length, const double *d_at, size_t d_length,
-                               double four[4], uint64_t counts[3], int32_t *node_scale, uint32_t *node_point)
+                               size_t children_length, int32_t floor, const double *g_at, size_t g_length, const double *d_at,
+                               size_t d_length, double four[4], uint64_t counts[3], int32_t *node_scale, uint32_t *node_point)
 {
     tracker_seen(state, book_at, book_length, queue_at, queue_length);
-    slice(nodes_at, nodes_length);
-    slice(children_at, children_length);
+    priors_seen(nodes_at, nodes_length, children_at, children_length, floor);
     slice(g_at, g_length);
     slice(d_at, d_length);
     if (answer == TEAKPOOL_DONE) {
@@ -181,15 +185,14 @@ uint32_t teakpool_kl_div_stats(const uint32_t state[3], const uint8_t *book_at, 
 }
 
 uint32_t teakpool_train(const double *g_at, size_t g_length, const double *d_at, size_t d_length, const uint8_t *nodes_at,
-                        size_t nodes_length, const uint8_t *children_at, size_t children_length, const uint8_t *sequences_at,
-                        size_t sequences_length, uint32_t s, uint32_t n, uint32_t rate, uint8_t *book_at, size_t book_length,
-                        uint32_t *knots_at, size_t knots_length, double *values_at, size_t values_length, uint32_t *count,
-                        int32_t *node_scale, uint32_t *node_point)
+                        size_t nodes_length, const uint8_t *children_at, size_t children_length, int32_t floor,
+                        const uint8_t *sequences_at, size_t sequences_length, uint32_t s, uint32_t n, uint32_t rate,
+                        uint8_t *book_at, size_t book_length, uint32_t *knots_at, size_t knots_length, double *values_at,
+                        size_t values_length, uint32_t *count, int32_t *node_scale, uint32_t *node_point)
 {
     slice(g_at, g_length);
     slice(d_at, d_length);
-    slice(nodes_at, nodes_length);
-    slice(children_at, children_length);
+    priors_seen(nodes_at, nodes_length, children_at, children_length, floor);
     slice(sequences_at, sequences_length);
     number(s);
     number(n);
@@ -237,7 +240,7 @@ static void handed(const char *what, const uint64_t *expected, size_t count)
     } while (0)
 
 #define TABLES place(g), 11, place(d), 12
-#define PRIORS place(nodes), 13, place(children), 14
+#define PRIORS place(nodes), 13, place(children), 14, (uint64_t)(int64_t)-27
 #define TRACKER place(tracker.state), place(book), 15, place(queue), 16
 #define NODE (uint64_t)(int64_t)-18, 19
 #define OUTPUT place(addresses), 8 * 20, place(figures), 20
@@ -252,6 +255,7 @@ static void lend(void)
 {
     tables = teakpool_make_tables(teakpool_make_g(g, 11), teakpool_make_d(d, 12));
     priors = teakpool_make_priors(teakpool_make_nodes(nodes, 13), teakpool_make_children(children, 14));
+    priors = teakpool_priors_with_floor(priors, teakpool_make_floor(-27));
     tracker = teakpool_make_tracker(teakpool_make_book(book, 15), teakpool_make_queue(queue, 16));
     output = teakpool_make_output(addresses, figures, 20);
     node = teakpool_make_address(-18, 19);
@@ -320,7 +324,7 @@ static void trials(void)
     int named = answer == TEAKPOOL_MISSING_CHILD || answer == TEAKPOOL_PAST_TABLE;
     expect(teakpool_try_path(priors, tables, teakpool_make_path(path, 17), teakpool_make_book(book, 15), &at) == answer,
            "teakpool_try_path");
-    if (answer == TEAKPOOL_DONE || named) {
+    if (answer == TEAKPOOL_DONE || answer >= TEAKPOOL_MISSING_CHILD) {
         HANDED("what a trial hands on", 0, place(last_state), place(book), 15, none, 0, place(last_state), place(book), 15, none, 0,
                place(path), 17, place(last_state), place(book), 15, none, 0, PRIORS, TABLES);
     } else {
@@ -370,13 +374,11 @@ int main(void)
 {
     lend();
     openings_and_adds();
-    for (answer = TEAKPOOL_DONE; answer <= TEAKPOOL_ONE_KNOT; answer++) {
+    for (answer = TEAKPOOL_DONE; answer <= TEAKPOOL_SHARED_POINT; answer++) {
         on_a_tracker();
         lists();
         statistics();
-        if (answer <= TEAKPOOL_PAST_TABLE) {
-            trials();
-        }
+        trials();
         baselines();
     }
     if (failures == 0) {

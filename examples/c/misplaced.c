@@ -11,7 +11,7 @@ uint32_t misplaced(struct teakpool_tracker *tracker, struct teakpool_priors prio
     (void)sequences;
 #if CASE == 0
     tables = teakpool_make_tables(tables.g, tables.d);
-    priors = teakpool_make_priors(priors.nodes, priors.children);
+    priors = teakpool_priors_with_floor(teakpool_make_priors(priors.nodes, priors.children), teakpool_make_floor(-3));
     *tracker = teakpool_make_tracker(tracker->book, tracker->queue);
     output = teakpool_make_output(output.addresses, output.figures, output.places);
     *sequences = teakpool_make_sequences(sequences->at, sequences->length, sequences->s, sequences->n, sequences->rate);
@@ -43,6 +43,10 @@ uint32_t misplaced(struct teakpool_tracker *tracker, struct teakpool_priors prio
     *sequences = teakpool_make_sequences(sequences->at, sequences->length, sequences->s, sequences->rate, sequences->n);
 #elif CASE == 14 /* numbers that do not say what they are */
     *sequences = teakpool_make_sequences(sequences->at, sequences->length, 2, 1, 1);
+#elif CASE == 15 /* a floor that does not say what it is */
+    priors = teakpool_priors_with_floor(priors, -3);
+#elif CASE == 16 /* priors with a floor that nobody takes */
+    teakpool_priors_with_floor(priors, teakpool_make_floor(-3));
 #else
 #error "there is no such case"
 #endif

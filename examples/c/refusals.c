@@ -1,4 +1,4 @@
-/* Meets every refusal from 1 to 18 through the C library, and the limits of teakpool.h from both sides. */
+/* Meets every refusal, 1 to 18 and 22, through the C library, and the limits of teakpool.h from both sides. */
 #include "teakpool.h"
 #include "bytes.h"
 
@@ -9,11 +9,11 @@
 #define EACH(i, rows) (size_t i = 0; i < sizeof rows / sizeof rows[0]; i++)
 
 /* The numbers that were returned so far. */
-static int met[TEAKPOOL_ONE_KNOT + 1];
+static int met[TEAKPOOL_SHARED_POINT + 1];
 
 static void expect_number(uint32_t code, uint32_t number, const char *what)
 {
-    if (code <= TEAKPOOL_ONE_KNOT) {
+    if (code <= TEAKPOOL_SHARED_POINT) {
         met[code] = 1;
     }
     if (code != number) {
@@ -39,6 +39,7 @@ static double table[TEAKPOOL_MAX_TABLE + 1];
 /* Priors of (0,9), without children, and of (1,7), whose chain is (0,7), (0,9). The third child record is a chain of its own. */
 static uint8_t nodes[2 * TEAKPOOL_RECORD_SIZE];
 static uint8_t children[3 * TEAKPOOL_RECORD_SIZE];
+static int32_t prior_floor = INT32_MIN;
 
 /* A tracker of window 1 to which (1,7), (0,9) is added. Its entries: the ending of (0,9), the ending of (1,7), (0,9) under (1,7). */
 static uint32_t state[3];
@@ -68,6 +69,7 @@ static uint8_t large_queue[TEAKPOOL_MAX_WINDOW * TEAKPOOL_PLACE_SIZE];
 
 static void lend_priors(void)
 {
+    prior_floor = INT32_MIN;
     put_record(nodes, 0, 9, 1, 0);
     put_record(nodes + 16, 1, 7, 1, 1);
     put_record(children, 0, 7, 2, 2);
@@ -123,7 +125,12 @@ static void table_entries(void)
     }
 }
 
-/* ---- 3 to 7 */
+/* ---- 3 to 7 and 22 */
+
+static uint32_t check_priors(void)
+{
+    return teakpool_check_priors(nodes, sizeof nodes, children, sizeof children, prior_floor);
+}
 
 static void prior_records(void)
 {
@@ -143,12 +150,46 @@ static void prior_records(void)
         {children + 40, 0, TEAKPOOL_ZERO_PRIOR, "a child count of 0, in a record out of reach"},
         {nodes + 8, 0, TEAKPOOL_ZERO_PRIOR, "a node total of 0"},
     };
-    expect_number(teakpool_check_priors(nodes, sizeof nodes, children, sizeof children), TEAKPOOL_DONE, "priors");
+    expect_number(check_priors(), TEAKPOOL_DONE, "priors");
     for EACH(i, rows) {
         put_word(rows[i].at, rows[i].word);
-        expect_number(teakpool_check_priors(nodes, sizeof nodes, children, sizeof children), rows[i].number, rows[i].what);
+        expect_number(check_priors(), rows[i].number, rows[i].what);
         lend_priors();
     }
+}
+
+/* The points of the nodes are 9 and 7; with 7 in the first record's place they are one. */
+static void shared_points(void)
+{
+    static const struct {
+        uint32_t point;
+        int32_t floor;
+        uint32_t number;
+        const char *what;
+    } rows[] = {
+        {9, INT32_MAX, TEAKPOOL_DONE, "two points below the floor"},
+        {7, INT32_MIN, TEAKPOOL_DONE, "one point, and no floor"},
+        {7, 0, TEAKPOOL_DONE, "one point, and the lower record at the floor"},
+        {7, 1, TEAKPOOL_DONE, "one point, and the higher record at the floor"},
+        {7, 2, TEAKPOOL_SHARED_POINT, "one point below the floor"},
+        {7, INT32_MAX, TEAKPOOL_SHARED_POINT, "one point below the greatest floor"},
+    };
+    uint8_t apart[3 * TEAKPOOL_RECORD_SIZE];
+    for EACH(i, rows) {
+        put_word(nodes + 4, rows[i].point);
+        prior_floor = rows[i].floor;
+        expect_number(check_priors(), rows[i].number, rows[i].what);
+    }
+    put_word(nodes + 8, 0);
+    expect_number(check_priors(), TEAKPOOL_ZERO_PRIOR, "a node total of 0 as well: 7 before 22");
+    lend_priors();
+    for (uint32_t i = 0; i < 3; i++) {
+        put_record(apart + 16 * i, (int32_t)i - 3, i % 2, 1, 0);
+    }
+    expect_number(teakpool_check_priors(apart, sizeof apart, children, sizeof children, -1), TEAKPOOL_DONE,
+                  "the second of one point at the floor");
+    expect_number(teakpool_check_priors(apart, sizeof apart, children, sizeof children, 0), TEAKPOOL_SHARED_POINT,
+                  "one point, and another record between the two");
 }
 
 static void prior_sizes(void)
@@ -172,9 +213,15 @@ static void prior_sizes(void)
         put_record(large_children + 16 * i, 0, i, 1, 0);
     }
     for EACH(i, rows) {
-        expect_number(teakpool_check_priors(large_nodes, rows[i].nodes_length, large_children, rows[i].children_length),
-                      rows[i].number, rows[i].what);
+        for (int32_t floor = 0; floor <= 1; floor++) {
+            expect_number(teakpool_check_priors(large_nodes, rows[i].nodes_length, large_children, rows[i].children_length, floor),
+                          rows[i].number, rows[i].what);
+        }
     }
+    put_word(large_nodes, 0xffffffffu);
+    put_word(large_nodes + 4, TEAKPOOL_MAX_NODES - 1);
+    expect_number(teakpool_check_priors(large_nodes, TEAKPOOL_MAX_NODES * 16, large_children, 0, 1), TEAKPOOL_SHARED_POINT,
+                  "the first and the last of the most records with one point");
 }
 
 /* One chain of 65 records: from its second record on it has 64. */
@@ -186,9 +233,10 @@ static void prior_chains(void)
         put_record(large_children + 16 * i, 0, i, 1, i == TEAKPOOL_MAX_CHAIN ? 0 : i + 2);
     }
     put_record(node, 1, 7, 0, 2);
-    expect_number(teakpool_check_priors(node, sizeof node, large_children, length), TEAKPOOL_DONE, "the longest chain");
+    expect_number(teakpool_check_priors(node, sizeof node, large_children, length, INT32_MIN), TEAKPOOL_DONE, "the longest chain");
     put_record(node, 1, 7, 0, 1);
-    expect_number(teakpool_check_priors(node, sizeof node, large_children, length), TEAKPOOL_LINKS, "a chain past the longest");
+    expect_number(teakpool_check_priors(node, sizeof node, large_children, length, INT32_MIN), TEAKPOOL_LINKS,
+                  "a chain past the longest");
 }
 
 /* ---- 8 to 12 */
@@ -313,9 +361,32 @@ static void form_of_bytes(void)
 
 static uint32_t read_all(size_t table_length, size_t nodes_length, size_t addresses_length, size_t figures_length)
 {
-    return teakpool_all_node_kl(state, book, sizeof book, queue, sizeof queue, nodes, nodes_length, children, sizeof children, table,
-                                table_length, table, table_length, addresses, addresses_length, figures, figures_length, counts,
-                                &node_scale, &node_point);
+    return teakpool_all_node_kl(state, book, sizeof book, queue, sizeof queue, nodes, nodes_length, children, sizeof children,
+                                prior_floor, table, table_length, table, table_length, addresses, addresses_length, figures,
+                                figures_length, counts, &node_scale, &node_point);
+}
+
+static uint32_t read_stats(size_t table_length)
+{
+    static double four[4];
+    static uint64_t three[3];
+    return teakpool_kl_div_stats(state, book, sizeof book, queue, sizeof queue, nodes, sizeof nodes, children, sizeof children,
+                                 prior_floor, table, table_length, table, table_length, four, three, &node_scale, &node_point);
+}
+
+/* Of (1,7). */
+static uint32_t read_divergence(size_t table_length)
+{
+    static double value;
+    return teakpool_posterior_kl_divergence(state, book, sizeof book, queue, sizeof queue, nodes, sizeof nodes, children,
+                                            sizeof children, prior_floor, table, table_length, table, table_length, 1, 7, &value);
+}
+
+/* Of (1,7). */
+static uint32_t read_vector(size_t addresses_length, size_t figures_length)
+{
+    return teakpool_prob_vector(state, book, sizeof book, queue, sizeof queue, nodes, sizeof nodes, children, sizeof children,
+                                prior_floor, 1, 7, addresses, addresses_length, figures, figures_length, &places, &ending);
 }
 
 static void short_outputs(void)
@@ -333,9 +404,7 @@ static void short_outputs(void)
     for EACH(i, rows) {
         size_t a = rows[i].addresses_length, f = rows[i].figures_length;
         expect_number(read_all(8, sizeof nodes, a, f), rows[i].number, rows[i].what);
-        expect_number(teakpool_prob_vector(state, book, sizeof book, queue, sizeof queue, nodes, sizeof nodes, children,
-                                           sizeof children, 1, 7, addresses, a, figures, f, &places, &ending),
-                      rows[i].number, rows[i].what);
+        expect_number(read_vector(a, f), rows[i].number, rows[i].what);
         expect_number(teakpool_evidence_prob_vector(state, book, sizeof book, queue, sizeof queue, 1, 7, addresses, a - 8, figures,
                                                     f - 1, &places, &ending),
                       rows[i].number, rows[i].what);
@@ -350,8 +419,15 @@ static void lowest_first(void)
 {
     open_and_add();
     state[1] = ENTRIES + 1;
+    put_word(nodes + 4, 7);
+    prior_floor = 2;
     expect_number(read_all(1, 15, 0, 0), TEAKPOOL_TABLE_LENGTHS, "tables first");
     expect_number(read_all(2, 15, 0, 0), TEAKPOOL_PRIOR_SIZES, "then priors");
+    expect_number(read_all(2, sizeof nodes, 0, 0), TEAKPOOL_SHARED_POINT, "then points below the floor");
+    expect_number(read_stats(2), TEAKPOOL_SHARED_POINT, "the same in the statistics");
+    expect_number(read_divergence(2), TEAKPOOL_SHARED_POINT, "the same in a divergence");
+    expect_number(read_vector(0, 0), TEAKPOOL_SHARED_POINT, "the same in probabilities");
+    lend_priors();
     expect_number(read_all(2, sizeof nodes, 0, 0), TEAKPOOL_FORM, "then the form");
     state[1] = 3;
     expect_number(read_all(2, sizeof nodes, 0, 0), TEAKPOOL_OUTPUT_SHORT, "then the output");
@@ -370,8 +446,9 @@ static const struct lengths ample = {sizeof book, TEAKPOOL_MAX_KNOTS, TEAKPOOL_M
 static uint32_t train(size_t table_length, const uint8_t *lent, size_t length, uint32_t s, uint32_t n, uint32_t rate,
                       struct lengths out)
 {
-    return teakpool_train(table, table_length, table, table_length, nodes, sizeof nodes, children, sizeof children, lent, length, s,
-                          n, rate, book, out.book, knots, out.knots, values, out.values, counts, &node_scale, &node_point);
+    return teakpool_train(table, table_length, table, table_length, nodes, sizeof nodes, children, sizeof children, prior_floor,
+                          lent, length, s, n, rate, book, out.book, knots, out.knots, values, out.values, counts, &node_scale,
+                          &node_point);
 }
 
 static void fill_training(void)
@@ -433,6 +510,12 @@ static void training_order(void)
         {{48, 1, 10}, 1, TEAKPOOL_BOOK_FULL, "a book of two entries"},
         {{72, 1, 10}, 1, TEAKPOOL_DONE, "a book of three entries"},
     };
+    put_word(nodes + 4, 7);
+    prior_floor = 2;
+    fill_training();
+    expect_number(train(8, one_path, sizeof one_path, 1, 1, 0, rows[0].out), TEAKPOOL_SHARED_POINT, "22 before 9");
+    expect_left(170, "a training refused by 22");
+    lend_priors();
     for EACH(i, rows) {
         expect_number(train(8, one_path, sizeof one_path, 1, 1, rows[i].rate, rows[i].out), rows[i].number, rows[i].what);
     }
@@ -466,8 +549,6 @@ static void divergences_refused(void)
         {3, 2, TEAKPOOL_MISSING_CHILD, 1, 7, TEAKPOOL_MISSING_CHILD, "both in one node: 14"},
         {3, 1, TEAKPOOL_PAST_TABLE, 0, 9, TEAKPOOL_MISSING_CHILD, "15 in a lower node comes before 14"},
     };
-    static double four[4], value;
-    static uint64_t three[3];
     node_scale = -5;
     node_point = 5;
     for EACH(i, rows) {
@@ -475,12 +556,8 @@ static void divergences_refused(void)
         put_word(nodes + 28, rows[i].link);
         open_and_add();
         expect_named(read_all(size, sizeof nodes, 16, 2), rows[i].number, rows[i].scale, rows[i].point, rows[i].what);
-        expect_named(teakpool_kl_div_stats(state, book, sizeof book, queue, sizeof queue, nodes, sizeof nodes, children,
-                                           sizeof children, table, size, table, size, four, three, &node_scale, &node_point),
-                     rows[i].number, rows[i].scale, rows[i].point, rows[i].what);
-        expect_number(teakpool_posterior_kl_divergence(state, book, sizeof book, queue, sizeof queue, nodes, sizeof nodes, children,
-                                                       sizeof children, table, size, table, size, 1, 7, &value),
-                      rows[i].alone, rows[i].what);
+        expect_named(read_stats(size), rows[i].number, rows[i].scale, rows[i].point, rows[i].what);
+        expect_number(read_divergence(size), rows[i].alone, rows[i].what);
         fill_training();
         expect_named(train(size, one_path, sizeof one_path, 1, 1, 1, ample), rows[i].number, rows[i].scale, rows[i].point,
                      rows[i].what);
@@ -533,6 +610,7 @@ int main(void)
     table_lengths();
     table_entries();
     prior_records();
+    shared_points();
     prior_sizes();
     prior_chains();
     openings();
@@ -546,14 +624,14 @@ int main(void)
     training_order();
     divergences_refused();
     baselines();
-    for (uint32_t number = TEAKPOOL_TABLE_LENGTHS; number <= TEAKPOOL_ONE_KNOT; number++) {
-        if (!met[number]) {
-            printf("not as expected: %u is never returned\n", number);
+    for (uint32_t number = TEAKPOOL_TABLE_LENGTHS; number <= TEAKPOOL_SHARED_POINT; number++) {
+        if (met[number] != (number <= TEAKPOOL_ONE_KNOT || number == TEAKPOOL_SHARED_POINT)) {
+            printf("not as expected: %u is %s returned\n", number, met[number] ? "" : "never");
             failures++;
         }
     }
     if (failures == 0) {
-        printf("refusals: every number from 1 to 18 is returned where it should be\n");
+        printf("refusals: every number, 1 to 18 and 22, is returned where it should be\n");
     }
     return failures == 0 ? 0 : 1;
 }

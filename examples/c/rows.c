@@ -1,5 +1,5 @@
-/* The plain functions on two paths. Every answer is held against the figure that follows by hand from tables with G(k) = k * k and
- * D(k) = 4k, figures by their bits. */
+/* The plain functions on two paths, without a floor. Every answer is held against the figure that follows by hand from tables with
+ * G(k) = k * k and D(k) = 4k, figures by their bits. */
 #include "teakpool.h"
 #include "bytes.h"
 
@@ -29,8 +29,9 @@ static void lend(void)
     put_record(children + TEAKPOOL_RECORD_SIZE, 0, 9, 3, 0);
     expect(teakpool_check_tables(g, 8, d, 8) == TEAKPOOL_DONE, "tables keep their rules");
     expect(teakpool_check_tables(g, 8, d, 7) == TEAKPOOL_TABLE_LENGTHS, "tables of two lengths");
-    expect(teakpool_check_priors(nodes, sizeof nodes, children, sizeof children) == TEAKPOOL_DONE, "priors keep their rules");
-    expect(teakpool_check_priors(nodes, 15, children, sizeof children) == TEAKPOOL_PRIOR_SIZES, "a part of a record");
+    expect(teakpool_check_priors(nodes, sizeof nodes, children, sizeof children, INT32_MIN) == TEAKPOOL_DONE,
+           "priors keep their rules");
+    expect(teakpool_check_priors(nodes, 15, children, sizeof children, INT32_MIN) == TEAKPOOL_PRIOR_SIZES, "a part of a record");
 }
 
 static void open_tracker(void)
@@ -69,10 +70,10 @@ static void read_one_divergence(double divergence)
 {
     double value = -1.0;
     uint32_t code = teakpool_posterior_kl_divergence(state, book, sizeof book, queue, sizeof queue, nodes, sizeof nodes, children,
-                                                     sizeof children, g, 8, d, 8, 1, 7, &value);
+                                                     sizeof children, INT32_MIN, g, 8, d, 8, 1, 7, &value);
     expect(code == TEAKPOOL_DONE && same(value, divergence), "the divergence of (1,7)");
     code = teakpool_posterior_kl_divergence(state, book, sizeof book, queue, sizeof queue, nodes, sizeof nodes, children,
-                                            sizeof children, g, 8, d, 8, 0, 9, &value);
+                                            sizeof children, INT32_MIN, g, 8, d, 8, 0, 9, &value);
     expect(code == TEAKPOOL_NONE && same(value, divergence), "(0,9) has no prior: none, and nothing is written");
 }
 
@@ -84,8 +85,8 @@ static void read_all_divergences(double divergence)
     int32_t node_scale = -5;
     uint32_t node_point = 5;
     uint32_t code = teakpool_all_node_kl(state, book, sizeof book, queue, sizeof queue, nodes, sizeof nodes, children,
-                                         sizeof children, g, 8, d, 8, addresses, sizeof addresses, figures, 2, counts, &node_scale,
-                                         &node_point);
+                                         sizeof children, INT32_MIN, g, 8, d, 8, addresses, sizeof addresses, figures, 2, counts,
+                                         &node_scale, &node_point);
     expect(code == TEAKPOOL_DONE, "the divergences of all nodes");
     expect(counts[0] == 1 && counts[1] == 1, "one place filled, one node skipped");
     expect(is_address(addresses, 1, 7) && same(figures[0], divergence) && same(figures[1], -1.0), "the place of (1,7)");
@@ -99,7 +100,7 @@ static void read_statistics(double divergence)
     int32_t node_scale = -5;
     uint32_t node_point = 5;
     uint32_t code = teakpool_kl_div_stats(state, book, sizeof book, queue, sizeof queue, nodes, sizeof nodes, children,
-                                          sizeof children, g, 8, d, 8, figures, counts, &node_scale, &node_point);
+                                          sizeof children, INT32_MIN, g, 8, d, 8, figures, counts, &node_scale, &node_point);
     expect(code == TEAKPOOL_DONE, "the statistics");
     expect(same(figures[0], divergence) && same(figures[1], divergence), "maximum and minimum");
     expect(same(figures[2], divergence) && same(figures[3], divergence * divergence), "sum and sum of squares");
@@ -114,7 +115,7 @@ static void read_short_tables(void)
     int32_t node_scale = -5;
     uint32_t node_point = 5;
     uint32_t code = teakpool_kl_div_stats(state, book, sizeof book, queue, sizeof queue, nodes, sizeof nodes, children,
-                                          sizeof children, g, 7, d, 7, figures, counts, &node_scale, &node_point);
+                                          sizeof children, INT32_MIN, g, 7, d, 7, figures, counts, &node_scale, &node_point);
     expect(code == TEAKPOOL_PAST_TABLE, "tables that end at 6");
     expect(node_scale == 1 && node_point == 7, "the node that 15 names");
     expect(same(figures[0], 0.0) && counts[0] == 9, "no statistics are written");
@@ -127,7 +128,8 @@ static void read_probabilities(void)
     uint32_t places = 9;
     double ending = -1.0;
     uint32_t code = teakpool_prob_vector(state, book, sizeof book, queue, sizeof queue, nodes, sizeof nodes, children,
-                                         sizeof children, 1, 7, addresses, sizeof addresses, figures, 2, &places, &ending);
+                                         sizeof children, INT32_MIN, 1, 7, addresses, sizeof addresses, figures, 2, &places,
+                                         &ending);
     expect(code == TEAKPOOL_DONE && places == 2, "the probabilities at (1,7)");
     expect(same(figures[0], 2.0 / 7.0) && same(figures[1], 3.0 / 7.0) && same(ending, 2.0 / 7.0), "2/7, 3/7, ending 2/7");
     expect(is_address(addresses, 0, 7) && is_address(addresses + TEAKPOOL_STEP_SIZE, 0, 9), "the children ascend");
@@ -180,8 +182,9 @@ static void train_and_ask(void)
     put_address(sequences + 12, 0, 9);
     put_word(sequences + TEAKPOOL_PLACE_SIZE, 1);
     put_address(sequences + TEAKPOOL_PLACE_SIZE + 4, 1, 7);
-    uint32_t code = teakpool_train(g, 8, d, 8, nodes, sizeof nodes, children, sizeof children, sequences, sizeof sequences, 2, 1, 1,
-                                   work, sizeof work, knots, 1, values, TEAKPOOL_KNOT_VALUES, &count, &node_scale, &node_point);
+    uint32_t code = teakpool_train(g, 8, d, 8, nodes, sizeof nodes, children, sizeof children, INT32_MIN, sequences,
+                                   sizeof sequences, 2, 1, 1, work, sizeof work, knots, 1, values, TEAKPOOL_KNOT_VALUES, &count,
+                                   &node_scale, &node_point);
     expect(code == TEAKPOOL_DONE, "training on two sequences of one path");
     expect(count == 1 && knots[0] == 1, "one knot, of length 1");
     expect(teakpool_stats(knots, 1, values, TEAKPOOL_KNOT_VALUES, 2, 1, figures) == TEAKPOOL_DONE, "the baseline at length 1");

@@ -90,8 +90,8 @@ static void vectors(void)
     uint32_t plain_places;
     expect(teakpool_tracker_prob_vector(&tracker, priors, node, output, &vector) == TEAKPOOL_DONE, "the probabilities");
     expect(teakpool_prob_vector(tracker.state, book_bytes, sizeof book_bytes, queue_bytes, sizeof queue_bytes, nodes, sizeof nodes,
-                                children, sizeof children, 1, 7, plain_addresses, sizeof plain_addresses, plain_figures, 2,
-                                &plain_places, &plain_ending) == TEAKPOOL_DONE,
+                                children, sizeof children, INT32_MIN, 1, 7, plain_addresses, sizeof plain_addresses,
+                                plain_figures, 2, &plain_places, &plain_ending) == TEAKPOOL_DONE,
            "the same, plain");
     expect(vector.places == 2 && vector.places == plain_places && vector.ending == plain_ending, "the vector");
     expect(memcmp(addresses, plain_addresses, sizeof addresses) == 0 && memcmp(figures, plain_figures, sizeof figures) == 0,

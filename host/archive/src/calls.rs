@@ -14,10 +14,10 @@ pub fn check_tables((g, d): Tables) -> u32 {
     unsafe { raw::teakpool_check_tables(g.as_ptr(), g.len(), d.as_ptr(), d.len()) }
 }
 
-/// Refusals 3 to 7 of node records and child records.
-pub fn check_priors((nodes, children): Priors) -> u32 {
+/// Refusals 3 to 7 and 22 of node records, child records and a floor.
+pub fn check_priors((nodes, children, floor): Priors) -> u32 {
     // SAFETY: as above.
-    unsafe { raw::teakpool_check_priors(nodes.as_ptr(), nodes.len(), children.as_ptr(), children.len()) }
+    unsafe { raw::teakpool_check_priors(nodes.as_ptr(), nodes.len(), children.as_ptr(), children.len(), floor) }
 }
 
 /// Opens a tracker.
@@ -45,7 +45,7 @@ pub fn add_path(state: &mut [u32; 3], book: &mut [u8], queue: &mut [u8], path: &
 /// A node's probabilities, prior and evidence together.
 pub fn prob_vector(
     (state, book, queue): Tracker,
-    (nodes, children): Priors,
+    (nodes, children, floor): Priors,
     (scale, point): Node,
     (addresses, figures): Output,
     (places, ending): Vector,
@@ -54,7 +54,7 @@ pub fn prob_vector(
     unsafe {
         raw::teakpool_prob_vector(
             state.as_ptr(), book.as_ptr(), book.len(), queue.as_ptr(), queue.len(),
-            nodes.as_ptr(), nodes.len(), children.as_ptr(), children.len(),
+            nodes.as_ptr(), nodes.len(), children.as_ptr(), children.len(), floor,
             scale, point,
             addresses.as_mut_ptr(), addresses.len(), figures.as_mut_ptr(), figures.len(),
             places, ending,
@@ -83,7 +83,7 @@ pub fn evidence_prob_vector(
 /// One node's divergence.
 pub fn posterior_kl_divergence(
     (state, book, queue): Tracker,
-    (nodes, children): Priors,
+    (nodes, children, floor): Priors,
     (g, d): Tables,
     (scale, point): Node,
     value: &mut f64,
@@ -92,7 +92,7 @@ pub fn posterior_kl_divergence(
     unsafe {
         raw::teakpool_posterior_kl_divergence(
             state.as_ptr(), book.as_ptr(), book.len(), queue.as_ptr(), queue.len(),
-            nodes.as_ptr(), nodes.len(), children.as_ptr(), children.len(),
+            nodes.as_ptr(), nodes.len(), children.as_ptr(), children.len(), floor,
             g.as_ptr(), g.len(), d.as_ptr(), d.len(),
             scale, point, value,
         )
@@ -102,7 +102,7 @@ pub fn posterior_kl_divergence(
 /// The divergences of all listed nodes with a prior; `counts` is places filled and nodes skipped.
 pub fn all_node_kl(
     (state, book, queue): Tracker,
-    (nodes, children): Priors,
+    (nodes, children, floor): Priors,
     (g, d): Tables,
     (addresses, figures): Output,
     counts: &mut [u32; 2],
@@ -112,7 +112,7 @@ pub fn all_node_kl(
     unsafe {
         raw::teakpool_all_node_kl(
             state.as_ptr(), book.as_ptr(), book.len(), queue.as_ptr(), queue.len(),
-            nodes.as_ptr(), nodes.len(), children.as_ptr(), children.len(),
+            nodes.as_ptr(), nodes.len(), children.as_ptr(), children.len(), floor,
             g.as_ptr(), g.len(), d.as_ptr(), d.len(),
             addresses.as_mut_ptr(), addresses.len(), figures.as_mut_ptr(), figures.len(),
             counts.as_mut_ptr(), node_scale, node_point,
@@ -124,7 +124,7 @@ pub fn all_node_kl(
 /// above 1.0e-10, the sequence length, nodes skipped.
 pub fn kl_div_stats(
     (state, book, queue): Tracker,
-    (nodes, children): Priors,
+    (nodes, children, floor): Priors,
     (g, d): Tables,
     figures: &mut [f64; 4],
     counts: &mut [u64; 3],
@@ -134,7 +134,7 @@ pub fn kl_div_stats(
     unsafe {
         raw::teakpool_kl_div_stats(
             state.as_ptr(), book.as_ptr(), book.len(), queue.as_ptr(), queue.len(),
-            nodes.as_ptr(), nodes.len(), children.as_ptr(), children.len(),
+            nodes.as_ptr(), nodes.len(), children.as_ptr(), children.len(), floor,
             g.as_ptr(), g.len(), d.as_ptr(), d.len(),
             figures.as_mut_ptr(), counts.as_mut_ptr(), node_scale, node_point,
         )
@@ -144,7 +144,7 @@ pub fn kl_div_stats(
 /// Trains a baseline; `count` is the number of knots.
 pub fn train(
     (g, d): Tables,
-    (nodes, children): Priors,
+    (nodes, children, floor): Priors,
     (sequences, s, n, rate): Sequences,
     (book, knots, values): Trained,
     count: &mut u32,
@@ -154,7 +154,7 @@ pub fn train(
     unsafe {
         raw::teakpool_train(
             g.as_ptr(), g.len(), d.as_ptr(), d.len(),
-            nodes.as_ptr(), nodes.len(), children.as_ptr(), children.len(),
+            nodes.as_ptr(), nodes.len(), children.as_ptr(), children.len(), floor,
             sequences.as_ptr(), sequences.len(), s, n, rate,
             book.as_mut_ptr(), book.len(),
             knots.as_mut_ptr(), knots.len(), values.as_mut_ptr(), values.len(),

@@ -19,8 +19,8 @@ pub use calls::*;
 /// A tracker that is only read: state, book and queue. The state is the window, entries used and
 /// paths accepted.
 pub type Tracker<'a> = (&'a [u32; 3], &'a [u8], &'a [u8]);
-/// Node records and child records.
-pub type Priors<'a> = (&'a [u8], &'a [u8]);
+/// Node records, child records and the floor scale; a floor of `i32::MIN` has no scale below it.
+pub type Priors<'a> = (&'a [u8], &'a [u8], i32);
 /// The tables of ln gamma and digamma.
 pub type Tables<'a> = (&'a [f64], &'a [f64]);
 /// The scale and the point of a node asked for.

@@ -26,12 +26,12 @@ extern "C" {
     /// `g` and `d` are slices as the module says.
     pub fn teakpool_check_tables(g: *const f64, g_len: usize, d: *const f64, d_len: usize) -> u32;
 
-    /// Refusals 3 to 7 of node records and child records.
+    /// Refusals 3 to 7 and 22 of node records, child records and a floor.
     ///
     /// # Safety
     /// `nodes` and `children` are slices as the module says.
     pub fn teakpool_check_priors(
-        nodes: *const u8, nodes_len: usize, children: *const u8, children_len: usize,
+        nodes: *const u8, nodes_len: usize, children: *const u8, children_len: usize, floor: i32,
     ) -> u32;
 
     /// Opens a tracker: book and queue become zero, `state` the window and two zeros.
@@ -61,7 +61,7 @@ extern "C" {
     /// as the module says, and `addresses`, `figures`, `places` and `ending` overlap nothing.
     pub fn teakpool_prob_vector(
         state: *const u32, book: *const u8, book_len: usize, queue: *const u8, queue_len: usize,
-        nodes: *const u8, nodes_len: usize, children: *const u8, children_len: usize,
+        nodes: *const u8, nodes_len: usize, children: *const u8, children_len: usize, floor: i32,
         scale: i32, point: u32,
         addresses: *mut u8, addresses_len: usize, figures: *mut f64, figures_len: usize,
         places: *mut u32, ending: *mut f64,
@@ -85,7 +85,7 @@ extern "C" {
     /// and `value` overlaps nothing.
     pub fn teakpool_posterior_kl_divergence(
         state: *const u32, book: *const u8, book_len: usize, queue: *const u8, queue_len: usize,
-        nodes: *const u8, nodes_len: usize, children: *const u8, children_len: usize,
+        nodes: *const u8, nodes_len: usize, children: *const u8, children_len: usize, floor: i32,
         g: *const f64, g_len: usize, d: *const f64, d_len: usize,
         scale: i32, point: u32, value: *mut f64,
     ) -> u32;
@@ -98,7 +98,7 @@ extern "C" {
     /// each, the others are slices as the module says, and nothing behind a `*mut` overlaps.
     pub fn teakpool_all_node_kl(
         state: *const u32, book: *const u8, book_len: usize, queue: *const u8, queue_len: usize,
-        nodes: *const u8, nodes_len: usize, children: *const u8, children_len: usize,
+        nodes: *const u8, nodes_len: usize, children: *const u8, children_len: usize, floor: i32,
         g: *const f64, g_len: usize, d: *const f64, d_len: usize,
         addresses: *mut u8, addresses_len: usize, figures: *mut f64, figures_len: usize,
         counts: *mut u32, node_scale: *mut i32, node_point: *mut u32,
@@ -113,7 +113,7 @@ extern "C" {
     /// `*mut` overlaps.
     pub fn teakpool_kl_div_stats(
         state: *const u32, book: *const u8, book_len: usize, queue: *const u8, queue_len: usize,
-        nodes: *const u8, nodes_len: usize, children: *const u8, children_len: usize,
+        nodes: *const u8, nodes_len: usize, children: *const u8, children_len: usize, floor: i32,
         g: *const f64, g_len: usize, d: *const f64, d_len: usize,
         figures: *mut f64, counts: *mut u64, node_scale: *mut i32, node_point: *mut u32,
     ) -> u32;
@@ -125,7 +125,7 @@ extern "C" {
     /// the module says, and nothing behind a `*mut` overlaps.
     pub fn teakpool_train(
         g: *const f64, g_len: usize, d: *const f64, d_len: usize,
-        nodes: *const u8, nodes_len: usize, children: *const u8, children_len: usize,
+        nodes: *const u8, nodes_len: usize, children: *const u8, children_len: usize, floor: i32,
         sequences: *const u8, sequences_len: usize, s: u32, n: u32, rate: u32,
         book: *mut u8, book_len: usize,
         knots: *mut u32, knots_len: usize, values: *mut f64, values_len: usize,

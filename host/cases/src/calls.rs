@@ -1,6 +1,6 @@
 //! Calls as data, each with all its arguments.
 
-use recount::{same_figures, Address, LentPriors, LentTables, Output};
+use recount::{same_figures, Address, LentPriors, LentTables, Output, Tracker};
 
 /// Lent tables, owned.
 #[derive(Debug, Clone, Default)]
@@ -19,18 +19,26 @@ impl Tables {
 }
 
 /// Lent priors, owned.
-#[derive(Debug, Clone, Default, PartialEq, Eq)]
+#[derive(Debug, Clone, PartialEq, Eq)]
 pub struct PriorBytes {
     /// The node records.
     pub nodes: Vec<u8>,
     /// The child records.
     pub children: Vec<u8>,
+    /// The floor scale.
+    pub floor: i32,
+}
+
+impl Default for PriorBytes {
+    fn default() -> PriorBytes {
+        PriorBytes { nodes: Vec::new(), children: Vec::new(), floor: i32::MIN }
+    }
 }
 
 impl PriorBytes {
     /// The priors as lent.
     pub fn lent(&self) -> LentPriors<'_> {
-        LentPriors { nodes: &self.nodes, children: &self.children }
+        LentPriors { nodes: &self.nodes, children: &self.children, floor: self.floor }
     }
 }
 
@@ -87,6 +95,17 @@ impl Call {
             | Call::EvidenceProbVector { output, .. }
             | Call::AllNodeKl { output } => Some(output),
             _ => None,
+        }
+    }
+
+    /// The nodes whose priors a reading of the tracker looks up.
+    pub fn looked_up(&self, tracker: &impl Tracker) -> Vec<Address> {
+        match self {
+            Call::ProbVector { node, .. } | Call::PosteriorKlDivergence { node } => vec![*node],
+            Call::AllNodeKl { .. } | Call::KlDivStats => {
+                tracker.evidence().map(|evidence| evidence.nodes.into_keys().collect()).unwrap_or_default()
+            }
+            _ => Vec::new(),
         }
     }
 }

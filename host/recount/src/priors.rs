@@ -1,24 +1,27 @@
-//! The lent priors (refusals 3 to 7) and look-ups by exact address. Node records are address,
-//! singleton count, first link; child records, numbered from 1, are address, count, next
-//! link; 0 ends a chain. Each number is tested over all records before the next one.
+//! The lent priors (refusals 3 to 7 and 22) and look-ups: of a node by exact address or, below the
+//! floor, by point; of a child by exact address. Node records are address, singleton count, first
+//! link; child records, numbered from 1, are address, count, next link; 0 ends a chain. Each number
+//! is tested over all records before the next one.
 
 use crate::address::{word, Address};
 use crate::limits::{MAX_CHAIN, MAX_CHILDREN, MAX_NODES, RECORD_BYTES};
 use crate::refusal::{refuse, Refusal};
 
-/// Node records and child records as lent.
+/// Node records, child records and a floor as lent.
 #[derive(Debug, Clone, Copy)]
 pub struct LentPriors<'a> {
     /// The node records.
     pub nodes: &'a [u8],
     /// The child records.
     pub children: &'a [u8],
+    /// The floor scale; no scale is below `i32::MIN`.
+    pub floor: i32,
 }
 
 /// One node's prior.
 #[derive(Debug, Clone, PartialEq, Eq)]
 pub struct Prior {
-    /// The node.
+    /// The address of its record.
     pub address: Address,
     /// Its singleton count.
     pub singleton: u32,
@@ -39,17 +42,30 @@ impl Prior {
     }
 }
 
-/// Priors that passed 3 to 7.
+/// Priors that passed 3 to 7 and 22.
 #[derive(Debug, Clone, PartialEq, Eq)]
 pub struct Priors {
     /// One a node, ascending.
     pub nodes: Vec<Prior>,
+    /// The floor scale.
+    pub floor: i32,
 }
 
 impl Priors {
-    /// The prior at exactly this address.
+    /// The prior of a node: where its scale is below the floor, that with the same point among those
+    /// below the floor, else that at exactly this address.
     pub fn node(&self, address: Address) -> Option<&Prior> {
-        self.nodes.iter().find(|prior| prior.address == address)
+        let below = |address: Address| address.scale < self.floor;
+        let fits = |record: Address| match below(address) {
+            true => below(record) && record.point == address.point,
+            false => record == address,
+        };
+        self.nodes.iter().find(|prior| fits(prior.address))
+    }
+
+    /// Whether the node has a prior whose record has another address.
+    pub fn found_by_point(&self, address: Address) -> bool {
+        self.node(address).is_some_and(|prior| prior.address != address)
     }
 }
 
@@ -58,6 +74,11 @@ struct Record {
     address: Address,
     count: u32,
     link: usize,
+}
+
+/// A record's bytes.
+pub fn record_bytes(address: Address, count: u32, link: u32) -> Vec<u8> {
+    [&address.bytes()[..], &count.to_le_bytes(), &link.to_le_bytes()].concat()
 }
 
 fn records(bytes: &[u8]) -> Vec<Record> {
@@ -69,7 +90,7 @@ fn records(bytes: &[u8]) -> Vec<Record> {
     bytes.chunks(RECORD_BYTES).map(record).collect()
 }
 
-/// Refusals 3 to 7; else the priors by node.
+/// Refusals 3 to 7 and 22; else the priors by node.
 pub fn check_priors(lent: LentPriors) -> Result<Priors, Refusal> {
     let whole = |bytes: &[u8], most: usize| {
         bytes.len().is_multiple_of(RECORD_BYTES) && bytes.len() / RECORD_BYTES <= most
@@ -85,7 +106,16 @@ pub fn check_priors(lent: LentPriors) -> Result<Priors, Refusal> {
     refuse(6, !priors.iter().all(ascending))?;
     let counts_hold = children.iter().all(|child| child.count > 0);
     refuse(7, !(counts_hold && priors.iter().all(|prior| prior.total() > 0)))?;
-    Ok(Priors { nodes: priors })
+    refuse(22, points_meet(&nodes, lent.floor))?;
+    Ok(Priors { nodes: priors, floor: lent.floor })
+}
+
+/// Whether two node records below the floor have one point.
+fn points_meet(nodes: &[Record], floor: i32) -> bool {
+    let below: Vec<Address> =
+        nodes.iter().map(|node| node.address).filter(|node| node.scale < floor).collect();
+    let met = |(index, one): (usize, &Address)| below[..index].iter().any(|other| other.point == one.point);
+    below.iter().enumerate().any(met)
 }
 
 /// Every single link, reached or not: a first link is 0 or a record's number, a next link is

@@ -1,6 +1,7 @@
-//! The five readings and their formulas. A reading tests 1 to 7 on what it is lent beside the
-//! tracker, then 9 on the tracker, then 13, then 14 and 15 by node ascending. Outputs change
-//! only where an answer fills them.
+//! The five readings and their formulas. A reading tests 1 to 7 and 22 on what it is lent beside
+//! the tracker, then 9 on the tracker, then 13, then 14 and 15 by node ascending. Outputs change
+//! only where an answer fills them. A node's evidence is by exact address, whatever record below the
+//! floor its prior is.
 
 use crate::address::Address;
 use crate::evidence::{Evidence, NodeEvidence};
@@ -137,7 +138,7 @@ pub fn posterior_kl_divergence(
     let priors = check_priors(priors)?;
     let evidence = tracker.evidence()?;
     match (evidence.nodes.get(&node), priors.node(node)) {
-        (Some(counted), Some(prior)) => divergence(tables, prior, counted).map(Some),
+        (Some(counted), Some(prior)) => divergence(tables, prior, node, counted).map(Some),
         _ => Ok(None),
     }
 }
@@ -208,27 +209,32 @@ fn divergences(
     let mut skipped = 0;
     for (node, counted) in &evidence.nodes {
         match priors.node(*node) {
-            Some(prior) => list.push((*node, divergence(tables, prior, counted)?)),
+            Some(prior) => list.push((*node, divergence(tables, prior, *node, counted)?)),
             None => skipped += 1,
         }
     }
     Ok((list, skipped))
 }
 
-/// A node's divergence by the rules' formula, left to right; 14 before 15.
-fn divergence(tables: LentTables, prior: &Prior, counted: &NodeEvidence) -> Result<f64, Refusal> {
+/// A node's divergence by the rules' formula, left to right; 14 before 15, both naming the node.
+fn divergence(
+    tables: LentTables,
+    prior: &Prior,
+    node: Address,
+    counted: &NodeEvidence,
+) -> Result<f64, Refusal> {
     let mut pairs = Vec::new();
     if prior.singleton > 0 {
         pairs.push((prior.singleton, counted.ending));
     }
     for (child, count) in &counted.children {
-        let known = prior.child(*child).ok_or(Refusal::at(14, prior.address))?;
+        let known = prior.child(*child).ok_or(Refusal::at(14, node))?;
         pairs.push((known, *count));
     }
     let t = prior.total();
     let u = t + counted.total();
     if u > tables.last_index() {
-        return Err(Refusal::at(15, prior.address));
+        return Err(Refusal::at(15, node));
     }
     let g = |k: u64| tables.g[k as usize];
     let d = |k: u64| tables.d[k as usize];

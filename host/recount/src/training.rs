@@ -1,6 +1,6 @@
 //! Training: each sequence is one recount with window 0 and the lent book's capacity; after
 //! path i, where i mod rate is 0, its statistics go to the knot i + 1. Tested first are 1 to
-//! 7, 9 on the book's size, 16 and 13; 10, 12, 14 and 15 stop it and leave zeros.
+//! 7 and 22, 9 on the book's size, 16 and 13; 10, 12, 14 and 15 stop it and leave zeros.
 
 use crate::address::word;
 use crate::limits::{KNOT_VALUES, MAX_KNOTS, MAX_PATHS, MAX_STEPS, PLACE_BYTES, SEQUENCES, STEP_BYTES};

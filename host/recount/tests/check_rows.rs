@@ -15,10 +15,6 @@ fn bits<const N: usize>(figures: [f64; N]) -> [u64; N] {
     figures.map(f64::to_bits)
 }
 
-fn record(address: Address, count: u32, link: u32) -> Vec<u8> {
-    [&address.bytes()[..], &count.to_le_bytes(), &link.to_le_bytes()].concat()
-}
-
 struct Kit {
     g: Vec<f64>,
     d: Vec<f64>,
@@ -31,15 +27,15 @@ impl Kit {
         Kit {
             g: (0..=last).map(|k| f64::from(k * k)).collect(),
             d: (0..=last).map(|k| f64::from(4 * k)).collect(),
-            nodes: record(NODE, 1, 1),
-            children: [record(SEVEN, 2, 2), record(NINE, 3, 0)].concat(),
+            nodes: record_bytes(NODE, 1, 1),
+            children: [record_bytes(SEVEN, 2, 2), record_bytes(NINE, 3, 0)].concat(),
         }
     }
     fn tables(&self) -> LentTables<'_> {
         LentTables { g: &self.g, d: &self.d }
     }
     fn priors(&self) -> LentPriors<'_> {
-        LentPriors { nodes: &self.nodes, children: &self.children }
+        LentPriors { nodes: &self.nodes, children: &self.children, floor: i32::MIN }
     }
 }
 

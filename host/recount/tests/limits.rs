@@ -8,14 +8,16 @@ fn number<T>(result: Result<T, Refusal>) -> u32 {
 }
 
 fn record(scale: i32, point: u32, count: u32, link: u32) -> Vec<u8> {
-    let mut bytes = Address::new(scale, point).bytes().to_vec();
-    bytes.extend(count.to_le_bytes());
-    bytes.extend(link.to_le_bytes());
-    bytes
+    record_bytes(Address::new(scale, point), count, link)
+}
+
+/// Priors without a floor.
+fn lent<'a>(nodes: &'a [u8], children: &'a [u8]) -> LentPriors<'a> {
+    LentPriors { nodes, children, floor: i32::MIN }
 }
 
 fn priors(nodes: &[Vec<u8>], children: &[Vec<u8>]) -> u32 {
-    number(check_priors(LentPriors { nodes: &nodes.concat(), children: &children.concat() }))
+    number(check_priors(lent(&nodes.concat(), &children.concat())))
 }
 
 fn tables(g: &[f64], d: &[f64]) -> u32 {
@@ -202,11 +204,10 @@ fn training_numbers() {
     let places = vec![0; PLACE_BYTES];
     let train_with = |sequences: u32, paths: u32, rate: u32, bytes: &[u8], book: usize, knots: usize| {
         let (mut book, mut knots, mut values) = (vec![1; book], vec![1; knots], vec![1.0; 10 * knots]);
-        let lent = Sequences { sequences, paths, rate, places: bytes };
+        let sequences = Sequences { sequences, paths, rate, places: bytes };
         let mut baseline = Baseline { knots: &mut knots, values: &mut values };
-        let (tables, priors) =
-            (LentTables { g: &[0.0; 2], d: &[0.0; 2] }, LentPriors { nodes: &[], children: &[] });
-        number(train(tables, priors, &mut book, lent, &mut baseline))
+        let tables = LentTables { g: &[0.0; 2], d: &[0.0; 2] };
+        number(train(tables, lent(&[], &[]), &mut book, sequences, &mut baseline))
     };
     assert_eq!(train_with(0, 1, 1, &places, 23, 0), 9, "9 before 16");
     assert_eq!(train_with(0, 1, 1, &places, 24, 0), 16, "16 before 13");
@@ -226,11 +227,10 @@ fn the_longest_sequence() {
     let places = vec![0; PLACE_BYTES * 65_537];
     let trained = |paths: u32| {
         let places = &places[..PLACE_BYTES * paths as usize];
-        let lent = Sequences { sequences: 1, paths, rate: 65_537, places };
+        let sequences = Sequences { sequences: 1, paths, rate: 65_537, places };
         let mut baseline = Baseline { knots: &mut [0; 1], values: &mut [0.0; 10] };
-        let (tables, priors) =
-            (LentTables { g: &[0.0; 2], d: &[0.0; 2] }, LentPriors { nodes: &[], children: &[] });
-        number(train(tables, priors, &mut [0; 24], lent, &mut baseline))
+        let tables = LentTables { g: &[0.0; 2], d: &[0.0; 2] };
+        number(train(tables, lent(&[], &[]), &mut [0; 24], sequences, &mut baseline))
     };
     assert_eq!(trained(65_536), 10, "16 lets it through, and its first place has length 0");
     assert_eq!(trained(65_537), 16);
@@ -256,7 +256,7 @@ fn stats_numbers() {
 fn a_15_at_a_lower_node_comes_before_a_14_at_a_higher_one() {
     let (low, high) = (Address::new(0, 0), Address::new(1, 0));
     let nodes = [record(0, 0, 2, 0), record(1, 0, 1, 0)].concat();
-    let lent = LentPriors { nodes: &nodes, children: &[] };
+    let lent = lent(&nodes, &[]);
     let mut recount = Recount::open(0, 240, 0).unwrap();
     recount.add_path(&path_bytes(&[high, low])).unwrap();
     let refused =
@@ -272,7 +272,7 @@ fn a_15_at_a_lower_node_comes_before_a_14_at_a_higher_one() {
 fn a_divergence_at_the_threshold_does_not_count() {
     let nodes = record(0, 0, 1, 1);
     let children = record(0, 0, 1, 0);
-    let lent = LentPriors { nodes: &nodes, children: &children };
+    let lent = lent(&nodes, &children);
     let d: Vec<f64> = (0..5).map(|k| f64::from(k) * THRESHOLD).collect();
     let tables = LentTables { g: &[0.0; 5], d: &d };
     let at = Address::new(0, 0);
@@ -294,8 +294,7 @@ fn order_of_a_readings_refusals() {
     let asked = |tracker: &Memory, g: &[f64], nodes: &[u8], places: usize| {
         let (mut addresses, mut figures) = (vec![7; 8 * places], vec![7.0; places]);
         let mut output = Output { addresses: &mut addresses, figures: &mut figures };
-        let lent = LentPriors { nodes, children: &[] };
-        let answer = all_node_kl(tracker, LentTables { g, d: &[0.0, 0.0] }, lent, &mut output);
+        let answer = all_node_kl(tracker, LentTables { g, d: &[0.0, 0.0] }, lent(nodes, &[]), &mut output);
         assert!(addresses.iter().all(|byte| *byte == 7) && figures.iter().all(|figure| *figure == 7.0));
         number(answer)
     };

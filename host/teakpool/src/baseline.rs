@@ -88,10 +88,10 @@ impl<'a> Baseline<'a> {
     /// Trains. `book` is for the work alone and is zero afterwards.
     ///
     /// # Errors
-    /// Before the work, and nothing changes: 1 and 2 for the tables, 3 to 7 for the priors, 9 for the
-    /// book's length, 16 for the sequences, 13 where `knots` or `values` are too short. In the work, and
-    /// `book`, `knots` and `values` become zero: 10 for a path's length, 12 where the book is too small,
-    /// and at a knot 14 and 15 as in `all_node_kl`.
+    /// Before the work, and nothing changes: 1 and 2 for the tables, 3 to 7 and 22 for the priors, 9 for
+    /// the book's length, 16 for the sequences, 13 where `knots` or `values` are too short. In the work,
+    /// and `book`, `knots` and `values` become zero: 10 for a path's length, 12 where the book is too
+    /// small, and at a knot 14 and 15 as in `all_node_kl`.
     pub fn train(
         tables: Tables,
         priors: Priors,
@@ -103,7 +103,7 @@ impl<'a> Baseline<'a> {
         let (mut count, mut node) = (0, Address::default());
         let answer = archive::train(
             (tables.g, tables.d),
-            (priors.nodes, priors.children),
+            priors.parts(),
             (sequences.places, sequences.s, sequences.n, sequences.rate),
             (book, knots, values),
             &mut count,

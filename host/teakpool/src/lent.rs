@@ -39,13 +39,35 @@ impl<'a> Tables<'a> {
 }
 
 /// Node records (address, singleton count, first link) and child records, numbered from 1
-/// (address, count, next link), 16 bytes each. Zero ends a chain.
+/// (address, count, next link), 16 bytes each. Zero ends a chain. And a floor, a scale: a node
+/// strictly below it is looked up by its point among the node records strictly below it, every other
+/// node by its exact address. Children are looked up by exact address in any case.
 ///
 /// ```
 /// use teakpool::{Priors, Refusal};
 ///
 /// assert_eq!(Priors::new(&[], &[]).check(), Ok(()));
 /// assert_eq!(Priors::new(&[0; 15], &[]).check(), Err(Refusal::PriorSizes));
+/// ```
+///
+/// goko finds nodes whose scale is under its tree's `min_res_index` by their points. Whoever has a
+/// goko tree sets the floor to it:
+///
+/// ```
+/// use teakpool::*;
+///
+/// let (recorded, met) = (Address::new(-5, 7), Address::new(-4, 7));
+/// let nodes = record_bytes(recorded, 3, 0);
+/// let priors = Priors::new(&nodes, &[]);
+/// let mut book = [0; ENTRY_BYTES];
+/// let mut tracker = Tracker::open(0, &mut book, &mut [])?;
+/// tracker.add_path(&[met])?;
+/// let mut output = Output { addresses: &mut [], figures: &mut [] };
+/// assert_eq!(tracker.prob_vector(priors, met, &mut output)?, None);
+/// let min_res_index = -3;
+/// let vector = tracker.prob_vector(priors.with_floor(min_res_index), met, &mut output)?;
+/// assert_eq!(vector, Some(ProbVector { places: 0, ending: 1.0 }));
+/// # Ok::<(), Refusal>(())
 /// ```
 #[derive(Debug, Clone, Copy)]
 #[non_exhaustive]
@@ -54,20 +76,32 @@ pub struct Priors<'a> {
     pub nodes: &'a [u8],
     /// The child records.
     pub children: &'a [u8],
+    /// The floor; `i32::MIN` is none, and then every look-up is exact.
+    pub floor: i32,
 }
 
 impl<'a> Priors<'a> {
-    /// The priors of these node records and child records.
+    /// The priors of these node records and child records, without a floor.
     pub const fn new(nodes: &'a [u8], children: &'a [u8]) -> Priors<'a> {
-        Priors { nodes, children }
+        Priors { nodes, children, floor: i32::MIN }
     }
 
-    /// Tests the records.
+    /// The same priors with this floor.
+    pub const fn with_floor(self, floor: i32) -> Self {
+        Priors { floor, ..self }
+    }
+
+    /// As the archive is lent them.
+    pub(crate) fn parts(&self) -> archive::Priors<'a> {
+        (self.nodes, self.children, self.floor)
+    }
+
+    /// Tests the records with their floor.
     ///
     /// # Errors
-    /// 3 to 7, each over all records before the next.
+    /// 3 to 7, then 22, each over all records before the next.
     pub fn check(&self) -> Result<(), Refusal> {
-        done(archive::check_priors((self.nodes, self.children)), Address::default())
+        done(archive::check_priors(self.parts()), Address::default())
     }
 }
 
@@ -100,12 +134,20 @@ pub fn record_bytes(address: Address, count: u32, link: u32) -> [u8; RECORD_BYTE
 /// let mut records = PriorRecords::default();
 /// records.node(Address::new(1, 7), 1, &[(Address::new(0, 7), 2), (Address::new(0, 9), 3)]);
 /// assert_eq!(records.lent().check(), Ok(()));
+///
+/// // Two nodes with one point are looked up by their scales, unless both are below the floor.
+/// records.node(Address::new(2, 7), 0, &[(Address::new(1, 7), 6)]);
+/// records.set_floor(2);
+/// assert_eq!(records.lent().check(), Ok(()));
+/// records.set_floor(3);
+/// assert_eq!(records.lent().check(), Err(teakpool::Refusal::SharedPoint));
 /// ```
 #[cfg(feature = "std")]
 #[derive(Debug, Clone, Default)]
 pub struct PriorRecords {
     nodes: std::vec::Vec<u8>,
     children: std::vec::Vec<u8>,
+    floor: Option<i32>,
 }
 
 #[cfg(feature = "std")]
@@ -122,9 +164,15 @@ impl PriorRecords {
         }
     }
 
+    /// Sets the floor. Without this there is none.
+    pub fn set_floor(&mut self, floor: i32) {
+        self.floor = Some(floor);
+    }
+
     /// The records as lent.
     pub fn lent(&self) -> Priors<'_> {
-        Priors::new(&self.nodes, &self.children)
+        let priors = Priors::new(&self.nodes, &self.children);
+        self.floor.map_or(priors, |floor| priors.with_floor(floor))
     }
 }
 

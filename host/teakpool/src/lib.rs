@@ -74,7 +74,7 @@ pub use tracker::{
     try_path, KLDivergenceStats, NodeKlList, Output, ProbVector, State, Tracker, ENTRY_BYTES, PLACE_BYTES,
 };
 
-/// The crate's version, as `"0.1.0"`.
+/// The crate's version, as `"0.2.0"`.
 pub const VERSION: &str = env!("CARGO_PKG_VERSION");
 
 /// The linked archive's version: major, minor, patch.

@@ -65,6 +65,8 @@ pub enum Refusal {
     BaselineInput,
     /// 18: one knot and a length past it.
     OneKnot,
+    /// 22: two node records below the floor have one point. It is tested right after 7.
+    SharedPoint,
     /// A number that this version of the crate does not know: the archive is of another version.
     Other(u32),
 }
@@ -91,6 +93,7 @@ impl Refusal {
             Refusal::TrainingInput => 16,
             Refusal::BaselineInput => 17,
             Refusal::OneKnot => 18,
+            Refusal::SharedPoint => 22,
             Refusal::Other(number) => number,
         }
     }
@@ -127,6 +130,7 @@ impl Refusal {
             Refusal::TrainingInput => "rate 0; s, n or byte count wrong; over 1,024 knots",
             Refusal::BaselineInput => "s not 1 to 64; knots not rising or over 1,024; values not ten a knot",
             Refusal::OneKnot => "one knot and a length past it",
+            Refusal::SharedPoint => "two node records below the floor have one point",
             Refusal::Other(_) => "not known to this version of the crate",
         }
     }
@@ -152,6 +156,7 @@ impl Refusal {
             16 => Refusal::TrainingInput,
             17 => Refusal::BaselineInput,
             18 => Refusal::OneKnot,
+            22 => Refusal::SharedPoint,
             other => Refusal::Other(other),
         }
     }
@@ -215,12 +220,12 @@ mod tests {
             assert_eq!(refusal.node(), named, "{}", number);
             assert_eq!(refusal.to_string(), format!("refusal {}: {}{}", number, when, end));
         }
-        assert!(table().map(|(number, _)| number).eq(1..=18));
+        assert!(table().map(|(number, _)| number).eq((1..=18).chain([22])));
     }
 
     #[test]
     fn an_unknown_number_is_kept() {
-        for number in [19, 29, 100, u32::MAX] {
+        for number in [19, 21, 23, 100, u32::MAX] {
             let refusal = Refusal::of(number, Address::default());
             assert_eq!((refusal, refusal.number(), refusal.node()), (Refusal::Other(number), number, None));
         }

@@ -216,8 +216,8 @@ impl<'m> Tracker<'m> {
     /// A node's probabilities, evidence added to the prior. None if the node has no prior.
     ///
     /// # Errors
-    /// 3 to 7 for the priors, 9 for the tracker's form, 13 where the output has fewer places than the
-    /// node has children.
+    /// 3 to 7 and 22 for the priors, 9 for the tracker's form, 13 where the output has fewer places than
+    /// the node has children.
     ///
     #[cfg_attr(feature = "std", doc = "```")]
     #[cfg_attr(not(feature = "std"), doc = "```ignore")]
@@ -245,7 +245,7 @@ impl<'m> Tracker<'m> {
         let (mut places, mut ending) = (0, 0.0);
         let answer = archive::prob_vector(
             (&self.state.words(), self.book, self.queue),
-            (priors.nodes, priors.children),
+            priors.parts(),
             (node.scale, node.point),
             (output.addresses, output.figures),
             (&mut places, &mut ending),
@@ -290,8 +290,8 @@ impl<'m> Tracker<'m> {
     /// One node's divergence. None if it is unlisted or has no prior.
     ///
     /// # Errors
-    /// 1 and 2 for the tables, 3 to 7 for the priors, 9 for the tracker's form; 14 where a child listed
-    /// under the node is not in its prior, 15 where the tables are too short for it.
+    /// 1 and 2 for the tables, 3 to 7 and 22 for the priors, 9 for the tracker's form; 14 where a child
+    /// listed under the node is not in its prior, 15 where the tables are too short for it.
     pub fn posterior_kl_divergence(
         &self,
         tables: Tables,
@@ -301,7 +301,7 @@ impl<'m> Tracker<'m> {
         let mut value = 0.0;
         let answer = archive::posterior_kl_divergence(
             (&self.state.words(), self.book, self.queue),
-            (priors.nodes, priors.children),
+            priors.parts(),
             (tables.g, tables.d),
             (node.scale, node.point),
             &mut value,
@@ -312,8 +312,8 @@ impl<'m> Tracker<'m> {
     /// The divergences of all listed nodes that have a prior, ascending.
     ///
     /// # Errors
-    /// 1 and 2 for the tables, 3 to 7 for the priors, 9 for the tracker's form, 13 where the output has
-    /// fewer places than there are such nodes; then 14 and 15 by node ascending.
+    /// 1 and 2 for the tables, 3 to 7 and 22 for the priors, 9 for the tracker's form, 13 where the output
+    /// has fewer places than there are such nodes; then 14 and 15 by node ascending.
     ///
     #[cfg_attr(feature = "std", doc = "```")]
     #[cfg_attr(not(feature = "std"), doc = "```ignore")]
@@ -350,7 +350,7 @@ impl<'m> Tracker<'m> {
         let (mut counts, mut node) = ([0; 2], Address::default());
         let answer = archive::all_node_kl(
             (&self.state.words(), self.book, self.queue),
-            (priors.nodes, priors.children),
+            priors.parts(),
             (tables.g, tables.d),
             (output.addresses, output.figures),
             &mut counts,
@@ -368,7 +368,7 @@ impl<'m> Tracker<'m> {
         let (mut figures, mut counts, mut node) = ([0.0; 4], [0; 3], Address::default());
         let answer = archive::kl_div_stats(
             (&self.state.words(), self.book, self.queue),
-            (priors.nodes, priors.children),
+            priors.parts(),
             (tables.g, tables.d),
             &mut figures,
             &mut counts,
@@ -390,7 +390,7 @@ const PATH_ENTRIES: usize = 2 * MAX_STEPS - 1;
 /// # Errors
 /// What `kl_div_stats` would give for a tracker that has this path and no other: 14 with a node of
 /// the path that goes on to a child which its prior does not have, 15 where the tables are too short
-/// even for this path alone, 1 to 7 for tables and priors; and 10 for the number of steps.
+/// even for this path alone, 1 to 7 and 22 for tables and priors; and 10 for the number of steps.
 ///
 #[cfg_attr(feature = "std", doc = "```")]
 #[cfg_attr(not(feature = "std"), doc = "```ignore")]

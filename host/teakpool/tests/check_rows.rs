@@ -191,6 +191,9 @@ fn what_is_put_together_with_std() {
     let mut records = PriorRecords::default();
     records.node(NODE, 1, &[(SEVEN, 2), (NINE, 3)]);
     assert_eq!((records.lent().nodes, records.lent().children), (kit.priors().nodes, kit.priors().children));
+    assert_eq!((records.lent().floor, kit.priors().floor), (i32::MIN, i32::MIN));
+    records.set_floor(-3);
+    assert_eq!(records.lent().floor, -3);
     assert_eq!(path_bytes(&[NODE, NINE]), [NODE, NINE].map(Address::bytes).concat());
 }
 
@@ -212,4 +215,69 @@ fn a_node_without_a_child_that_was_seen() {
     let kit = Kit::up_to(7);
     let ask = |tracker: &Tracker| tracker.kl_div_stats(kit.tables(), kit.priors());
     assert_eq!(after(8, &[&[NODE, NODE]], ask), Ok(Err(Refusal::MissingChild(NODE))));
+}
+
+/// A node that has a record, and one of its point that a path meets.
+const RECORDED: Address = Address::new(-5, 7);
+const MET: Address = Address::new(-4, 7);
+
+fn fine_kit(last: u32) -> Kit {
+    Kit { nodes: record_bytes(RECORDED, 1, 1), ..Kit::up_to(last) }
+}
+
+#[test]
+fn nodes_below_the_floor_are_found_by_their_points() {
+    let kit = fine_kit(7);
+    for (floor, divergence) in [
+        (i32::MIN, None),
+        (RECORDED.scale, None),
+        (MET.scale, None),
+        (MET.scale + 1, Some(6.0)),
+        (i32::MAX, Some(6.0)),
+    ] {
+        let priors = kit.priors().with_floor(floor);
+        let ask = |tracker: &Tracker| {
+            let mut output = Output { addresses: &mut [0; 16], figures: &mut [0.0; 2] };
+            let list = tracker.all_node_kl(kit.tables(), priors, &mut output);
+            let vector = tracker.prob_vector(priors, MET, &mut output);
+            let stats = tracker.kl_div_stats(kit.tables(), priors).map(|stats| stats.sum);
+            (list, vector, tracker.posterior_kl_divergence(kit.tables(), priors, MET), stats)
+        };
+        let places = u32::from(divergence.is_some());
+        let vector = divergence.map(|_| ProbVector { places: 2, ending: 1.0 / 7.0 });
+        let list = NodeKlList { places, skipped: 2 - places };
+        let answers = (Ok(list), Ok(vector), Ok(divergence), Ok(divergence.unwrap_or(0.0)));
+        assert_eq!(after(8, &[&[MET, NINE]], ask), Ok(answers), "floor {}", floor);
+        let (mut book, mut knots, mut values) = ([0; 8 * ENTRY_BYTES], [0; 1], [0.0; KNOT_VALUES]);
+        let sequences = Sequences { s: 1, n: 1, rate: 1, places: &place_bytes(&[MET, NINE]) };
+        let trained =
+            Baseline::train(kit.tables(), priors, sequences, &mut book, &mut knots, &mut values).unwrap();
+        assert_eq!(trained.stats(1).unwrap().sum.mean, divergence.unwrap_or(0.0), "floor {}", floor);
+    }
+}
+
+#[test]
+fn what_names_a_node_names_the_one_that_was_met() {
+    let tried = |last: u32, path: &[Address]| {
+        let kit = fine_kit(last);
+        try_path(kit.tables(), kit.priors().with_floor(-3), path)
+    };
+    assert_eq!(tried(7, &[MET, NINE]), Ok(()));
+    assert_eq!(tried(7, &[MET, Address::new(-1, 9)]), Err(Refusal::MissingChild(MET)));
+    assert_eq!(tried(6, &[MET, NINE]), Err(Refusal::PastTable(MET)));
+}
+
+#[test]
+fn a_point_that_two_records_below_the_floor_have() {
+    let kit = Kit::up_to(7);
+    let nodes = [record_bytes(RECORDED, 1, 0), record_bytes(MET, 1, 0)].concat();
+    let priors = |floor: i32| Priors::new(&nodes, &[]).with_floor(floor);
+    assert_eq!((priors(i32::MIN).check(), priors(MET.scale).check()), (Ok(()), Ok(())));
+    assert_eq!(priors(MET.scale + 1).check(), Err(Refusal::SharedPoint));
+    // It comes before the form of a tracker.
+    let broken = State { window: 1_025, ..State::default() };
+    let mut book = [0; ENTRY_BYTES];
+    let tracker = Tracker::resume(broken, &mut book, &mut []);
+    let read = |floor: i32| tracker.kl_div_stats(kit.tables(), priors(floor)).map(|_| ());
+    assert_eq!((read(0), read(i32::MIN)), (Err(Refusal::SharedPoint), Err(Refusal::Form)));
 }

@@ -25,6 +25,7 @@ pub struct Archive {
     path: Lent<u8>,
     nodes: Lent<u8>,
     children: Lent<u8>,
+    floor: i32,
     g: Lent<f64>,
     d: Lent<f64>,
     addresses: Lent<u8>,
@@ -113,6 +114,7 @@ impl Archive {
     pub fn lend_priors(&mut self, priors: &PriorBytes) {
         self.nodes.lay(&priors.nodes);
         self.children.lay(&priors.children);
+        self.floor = priors.floor;
     }
 
     /// Lends tables to the readings that follow.
@@ -177,7 +179,7 @@ impl Archive {
 
     /// `teakpool_check_priors` on the priors lent last.
     pub fn check_priors(&mut self) -> Told<Result<(), Refusal>> {
-        let answer = archive::check_priors((self.nodes.now(), self.children.now()));
+        let answer = archive::check_priors((self.nodes.now(), self.children.now(), self.floor));
         self.bands()?;
         Ok(carried_out(answer))
     }
@@ -254,7 +256,7 @@ impl Archive {
         self.lay_vector(output);
         let answer = archive::prob_vector(
             (self.state.array(), self.book.now(), self.queue.now()),
-            (self.nodes.now(), self.children.now()),
+            (self.nodes.now(), self.children.now(), self.floor),
             (node.scale, node.point),
             (self.addresses.now_mut(), self.figures.now_mut()),
             (self.places.number_mut(), self.ending.number_mut()),
@@ -283,7 +285,7 @@ impl Archive {
         self.ending.lay(&[UNWRITTEN_FIGURE]);
         let answer = archive::posterior_kl_divergence(
             (self.state.array(), self.book.now(), self.queue.now()),
-            (self.nodes.now(), self.children.now()),
+            (self.nodes.now(), self.children.now(), self.floor),
             (self.g.now(), self.d.now()),
             (node.scale, node.point),
             self.ending.number_mut(),
@@ -303,7 +305,7 @@ impl Archive {
         self.lay_node();
         let answer = archive::all_node_kl(
             (self.state.array(), self.book.now(), self.queue.now()),
-            (self.nodes.now(), self.children.now()),
+            (self.nodes.now(), self.children.now(), self.floor),
             (self.g.now(), self.d.now()),
             (self.addresses.now_mut(), self.figures.now_mut()),
             self.places.array_mut(),
@@ -327,7 +329,7 @@ impl Archive {
         self.lay_node();
         let answer = archive::kl_div_stats(
             (self.state.array(), self.book.now(), self.queue.now()),
-            (self.nodes.now(), self.children.now()),
+            (self.nodes.now(), self.children.now(), self.floor),
             (self.g.now(), self.d.now()),
             self.ending.array_mut(),
             self.numbers.array_mut(),
@@ -366,7 +368,7 @@ impl Archive {
         self.lay_node();
         let answer = archive::train(
             (self.g.now(), self.d.now()),
-            (self.nodes.now(), self.children.now()),
+            (self.nodes.now(), self.children.now(), self.floor),
             (self.sequences.now(), training.sequences, training.paths, training.rate),
             (self.book.now_mut(), self.knots.now_mut(), self.values.now_mut()),
             self.places.number_mut(),

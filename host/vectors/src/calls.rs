@@ -2,11 +2,9 @@
 //! an opening and an add by the state and sums of book and queue as well. A list ends with
 //! the whole book and queue.
 
-use crate::limits::{
-    within, Sizes, CHILD_BYTES, NODE_BYTES, OUTPUT_BYTES, OUTPUT_FIGURES, PATH_BYTES, TABLE_ENTRIES,
-};
+use crate::limits::{within, Sizes, OUTPUT_BYTES, OUTPUT_FIGURES, PATH_BYTES, TABLE_ENTRIES};
 use crate::words::{checksum, Case, Reader};
-use cases::calls::{Call, CallList, Places, PriorBytes, Tables};
+use cases::calls::{Call, CallList, Places, Tables};
 use cases::play::{Answer, Bytes, History, Player, Side};
 use recount::limits::ENTRY_BYTES;
 
@@ -54,8 +52,7 @@ fn write_call(case: &mut Case, call: &Call) {
         }
         Call::LendPriors(priors) => {
             case.word(LEND_PRIORS);
-            case.bytes(&priors.nodes);
-            case.bytes(&priors.children);
+            case.priors(priors);
         }
         Call::ProbVector { node, output } => {
             case.word(PROB_VECTOR);
@@ -178,12 +175,7 @@ fn read_call(reader: &mut Reader, sizes: &Sizes) -> Result<Call, String> {
             within("table", tables.g.len().max(tables.d.len()), TABLE_ENTRIES)?;
             Call::LendTables(tables)
         }
-        LEND_PRIORS => {
-            let priors = PriorBytes { nodes: reader.bytes()?, children: reader.bytes()? };
-            within("node records", priors.nodes.len(), NODE_BYTES)?;
-            within("child records", priors.children.len(), CHILD_BYTES)?;
-            Call::LendPriors(priors)
-        }
+        LEND_PRIORS => Call::LendPriors(reader.priors()?),
         PROB_VECTOR => Call::ProbVector { node: reader.address()?, output: read_places(reader)? },
         EVIDENCE_PROB_VECTOR => {
             Call::EvidenceProbVector { node: reader.address()?, output: read_places(reader)? }

@@ -57,7 +57,7 @@ const FILES: [Recorded; 6] = [
     },
     Recorded {
         name: "readings.bin",
-        most: 98_304,
+        most: 131_072,
         magic: *b"TPR1",
         cases: || calls::record(sample::reading_lists()),
         replay: |reader| calls::replay(reader, &limits::SMALL),

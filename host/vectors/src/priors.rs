@@ -1,9 +1,9 @@
 //! priors.bin: tables and priors with the number that refuses them, and look-ups of nodes and
 //! children in priors that are taken.
 
-use crate::limits::{within, CHILD_BYTES, NODE_BYTES, TABLE_ENTRIES};
+use crate::limits::{within, TABLE_ENTRIES};
 use crate::words::{Case, Reader};
-use cases::calls::{PriorBytes, Tables};
+use cases::calls::Tables;
 use cases::sample::{self, PriorsCase};
 use recount::{check_priors, check_tables, Address, Priors};
 
@@ -31,8 +31,7 @@ fn table_answer(case: &mut Case, tables: &Tables) {
 fn priors_case(recorded: &PriorsCase) -> Case {
     let mut case = Case::default();
     case.word(PRIORS);
-    case.bytes(&recorded.priors.nodes);
-    case.bytes(&recorded.priors.children);
+    case.priors(&recorded.priors);
     let checked = check_priors(recorded.priors.lent());
     case.word(checked.as_ref().err().map_or(0, |refusal| refusal.number));
     let asked = if checked.is_ok() { &recorded.asked[..] } else { &[] };
@@ -74,9 +73,7 @@ pub fn replay(reader: &mut Reader) -> Result<(), String> {
 }
 
 fn replay_priors(reader: &mut Reader) -> Result<(), String> {
-    let lent = PriorBytes { nodes: reader.bytes()?, children: reader.bytes()? };
-    within("node records", lent.nodes.len(), NODE_BYTES)?;
-    within("child records", lent.children.len(), CHILD_BYTES)?;
+    let lent = reader.priors()?;
     let checked = check_priors(lent.lent());
     reader.expect(&[checked.as_ref().err().map_or(0, |refusal| refusal.number)])?;
     for _ in 0..reader.word()? {

@@ -1,10 +1,10 @@
 //! training.bin: trainings with all that they are lent, before and after, and baselines with
 //! the lengths that `stats` is asked for.
 
-use crate::limits::{within, CHILD_BYTES, KNOTS, NODE_BYTES, SMALL, TABLE_ENTRIES, TRAINING_BYTES};
+use crate::limits::{within, KNOTS, SMALL, TABLE_ENTRIES, TRAINING_BYTES};
 use crate::words::{Case, Reader};
 use cases::baselines::{StatsAsked, Training};
-use cases::calls::{PriorBytes, Tables};
+use cases::calls::Tables;
 use cases::sample;
 use recount::limits::KNOT_VALUES;
 
@@ -21,8 +21,7 @@ fn record_training(training: &Training) -> Case {
     case.word(TRAIN);
     case.figures(&training.tables.g);
     case.figures(&training.tables.d);
-    case.bytes(&training.priors.nodes);
-    case.bytes(&training.priors.children);
+    case.priors(&training.priors);
     case.0.extend([training.sequences, training.paths, training.rate]);
     case.places(&training.places);
     write_lent(&mut case, training);
@@ -78,13 +77,11 @@ pub fn replay(reader: &mut Reader) -> Result<(), String> {
 
 fn replay_training(reader: &mut Reader) -> Result<(), String> {
     let tables = Tables { g: reader.figures()?, d: reader.figures()? };
-    let priors = PriorBytes { nodes: reader.bytes()?, children: reader.bytes()? };
+    let priors = reader.priors()?;
     let (sequences, paths, rate) = (reader.word()?, reader.word()?, reader.word()?);
     let (places, book) = (reader.places()?, reader.bytes()?);
     let (knots, values) = (reader.counted_words()?, reader.figures()?);
     within("table", tables.g.len().max(tables.d.len()), TABLE_ENTRIES)?;
-    within("node records", priors.nodes.len(), NODE_BYTES)?;
-    within("child records", priors.children.len(), CHILD_BYTES)?;
     within("places", places.len(), TRAINING_BYTES)?;
     within("book", book.len(), SMALL.book_bytes)?;
     within("knots", knots.len().max(values.len().div_ceil(KNOT_VALUES)), KNOTS)?;

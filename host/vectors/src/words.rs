@@ -1,6 +1,8 @@
 //! Files as sequences of 32-bit little-endian words: writing and reading of the pieces that
 //! all cases are made of.
 
+use crate::limits::{within, CHILD_BYTES, NODE_BYTES};
+use cases::calls::PriorBytes;
 use recount::limits::PLACE_BYTES;
 use recount::{Address, Refusal};
 
@@ -43,6 +45,13 @@ impl Case {
         for figure in figures {
             self.figure(*figure);
         }
+    }
+
+    /// Node records and child records as bytes, then the floor's 32 bits.
+    pub fn priors(&mut self, priors: &PriorBytes) {
+        self.bytes(&priors.nodes);
+        self.bytes(&priors.children);
+        self.word(priors.floor as u32);
     }
 
     /// Queue places: the length in bytes, then for each 516 bytes, the last maybe fewer, a
@@ -149,6 +158,14 @@ impl<'a> Reader<'a> {
 
     pub fn figures(&mut self) -> Result<Vec<f64>, String> {
         (0..self.word()?).map(|_| self.figure()).collect()
+    }
+
+    /// Priors within the sizes of the README.
+    pub fn priors(&mut self) -> Result<PriorBytes, String> {
+        let (nodes, children) = (self.bytes()?, self.bytes()?);
+        within("node records", nodes.len(), NODE_BYTES)?;
+        within("child records", children.len(), CHILD_BYTES)?;
+        Ok(PriorBytes { nodes, children, floor: self.word()? as i32 })
     }
 
     pub fn places(&mut self) -> Result<Vec<u8>, String> {
