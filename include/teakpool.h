@@ -63,7 +63,7 @@
  * have one point share a prior, each with its own evidence and its own place in an answer; 14 and 15 name the listed node. Children
  * in a chain and entries of a book go by exact address, whatever the floor is. INT32_MIN is no floor: every look-up is exact.
  * goko puts all scales under its tree's `min_res_index` into one layer, where the point alone finds a node. So whoever has a goko
- * tree lends its min_res_index as the floor; otherwise nodes are skipped that goko finds.
+ * tree lends its min_res_index as the floor; otherwise nodes may be skipped that goko finds.
  *
  * Figures. They are the same where their 64 bits are, and any NaN is the same as any NaN: plus zero and minus zero are two figures.
  * No reading tells minus zero: not as a divergence, nor as a probability, nor in the statistics. Divergences and probabilities are not
