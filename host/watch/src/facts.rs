@@ -26,7 +26,7 @@ fn paths(day: &Day) -> String {
         0 => "all of them count".to_string(),
         window => format!("the last {} count", window),
     };
-    // Below a floor more nodes have a prior than there are priors.
+    // Below a floor more nodes can have a prior than there are priors.
     let priors = match day.priors.floor() {
         None => format!("nodes with a prior: {}", day.priors.len()),
         Some(floor) => format!("priors: {}, floor {}", day.priors.len(), floor),

@@ -25,9 +25,10 @@ impl Priors {
         self.by_node.insert(node, prior);
     }
 
-    /// Sets the floor, whether it stands before the priors or after them.
+    /// Sets the floor, whether it stands before the priors or after them. Below the least scale there
+    /// is nothing, so that it is no floor.
     pub fn set_floor(&mut self, floor: i32) {
-        self.floor = Some(floor);
+        self.floor = Some(floor).filter(|floor| *floor > i32::MIN);
         self.by_point = self.below().map(|(node, _)| (node.point, *node)).collect();
     }
 
