@@ -16,8 +16,12 @@ const LAST: usize = 4_095;
 /// A prior: a node, its singleton count, its children with their counts.
 pub type Prior = (Address, u32, Vec<(Address, u32)>);
 
+/// The address of a node by its index, ascending with it.
+type Addresses = fn(usize) -> Address;
+
 /// All of it, made from a seed.
 pub struct Load {
+    address: Addresses,
     children: Vec<Vec<usize>>,
     rng: Rng,
     /// The priors, ascending.
@@ -28,14 +32,21 @@ pub struct Load {
     pub tables: cases::calls::Tables,
 }
 
-/// Four scales of both signs, ascending with the index.
-fn address(index: usize) -> Address {
+/// Four scales of both signs.
+pub fn four_scales(index: usize) -> Address {
     Address::new((index / (NODES / 4)) as i32 - 2, index as u32)
 }
 
+/// Ten scales below 0, and points that go round the scales, so that each scale has its points between
+/// those of the others.
+pub fn ten_fine_scales(index: usize) -> Address {
+    let (scale, place) = (index / (NODES / 10), index % (NODES / 10));
+    Address::new(scale as i32 - 10, (10 * place + (7 * scale + 3) % 10) as u32)
+}
+
 impl Load {
-    /// A load.
-    pub fn new(seed: u64) -> Load {
+    /// A load whose nodes have these addresses.
+    pub fn new(seed: u64, address: Addresses) -> Load {
         let mut rng = Rng::new(seed);
         let mut children = Vec::new();
         let (mut priors, mut records) = (Vec::new(), PriorRecords::default());
@@ -55,16 +66,16 @@ impl Load {
             priors.push((address(node), singleton, counted));
             children.push(own);
         }
-        Load { children, rng, priors, records, tables: gamma(LAST) }
+        Load { address, children, rng, priors, records, tables: gamma(LAST) }
     }
 
     /// A random path.
     pub fn path(&mut self) -> Vec<Address> {
         let mut node = self.rng.below(NODES);
-        let mut path = vec![address(node)];
+        let mut path = vec![(self.address)(node)];
         while path.len() < STEPS {
             node = self.rng.pick(&self.children[node]);
-            path.push(address(node));
+            path.push((self.address)(node));
         }
         path
     }
@@ -80,13 +91,13 @@ impl Load {
         let mut paths = Vec::new();
         while let Some(first) = unused.iter().position(|children| !children.is_empty()) {
             let mut node = first;
-            let mut path = vec![address(node)];
+            let mut path = vec![(self.address)(node)];
             while path.len() < STEPS {
                 node = match unused[node].pop() {
                     Some(child) => child,
                     None => self.rng.pick(&self.children[node]),
                 };
-                path.push(address(node));
+                path.push((self.address)(node));
             }
             paths.push(path);
         }
@@ -95,6 +106,6 @@ impl Load {
 
     /// Some node.
     pub fn node(&mut self) -> Address {
-        address(self.rng.below(NODES))
+        (self.address)(self.rng.below(NODES))
     }
 }

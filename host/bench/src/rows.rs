@@ -3,7 +3,7 @@
 
 use crate::agree;
 use crate::clock::timed;
-use crate::load::{Load, NODES};
+use crate::load::{four_scales, Load, NODES};
 use crate::pace::Formed;
 use crate::sides::{filled, goko_address, goko_path, goko_priors, ENTRIES, MOST_ENTRIES};
 use oracle::{Goko, NodeAddress, Trace};
@@ -13,19 +13,25 @@ use teakpool::{path_bytes, place_bytes, Address, Baseline, Output, Sequences, Ta
 
 /// Calls of a round: adds, readings of one node, readings of all nodes.
 const ADDS: usize = 4_000;
-const READINGS: usize = 400;
-const LISTS: usize = 20;
+pub const READINGS: usize = 400;
+pub const LISTS: usize = 20;
 
 /// Lets an answer go unread.
-fn let_go<T>(_: T) {}
+pub fn let_go<T>(_: T) {}
 
 fn median(mut times: Vec<f64>) -> f64 {
     times.sort_by(f64::total_cmp);
     times[times.len() / 2]
 }
 
+/// A table's head; its figures are the two sides' microseconds.
+pub fn head(ours: &str, theirs: &str, rounds: usize) {
+    println!("| call | {}, µs | {}, µs | ratio | in {} rounds |", ours, theirs, rounds);
+    println!("|---|---|---|---|---|");
+}
+
 /// A printed row; `round` gives the two sides' microseconds.
-fn row(name: &str, rounds: usize, mut round: impl FnMut() -> (f64, f64)) {
+pub fn row(name: &str, rounds: usize, mut round: impl FnMut() -> (f64, f64)) {
     round();
     let (ours, theirs): (Vec<f64>, Vec<f64>) = (0..rounds).map(|_| round()).unzip();
     let mut ratios: Vec<f64> = ours.iter().zip(&theirs).map(|(ours, theirs)| ours / theirs).collect();
@@ -43,10 +49,9 @@ fn row(name: &str, rounds: usize, mut round: impl FnMut() -> (f64, f64)) {
 
 /// All rows.
 pub fn print(rounds: usize) {
-    let mut load = Load::new(1);
+    let mut load = Load::new(1, four_scales);
     println!("goko's map is {}\n", if hashbrown::ORDERED { "ordered" } else { "hashed" });
-    println!("| call | archive, µs | goko, µs | ratio | in {} rounds |", rounds);
-    println!("|---|---|---|---|---|");
+    head("archive", "goko", rounds);
     let (mut memory, state, mut theirs) = filled(&mut load, MOST_ENTRIES);
     let mut ours = Tracker::resume(state, &mut memory.book, &mut memory.queue);
     tested_adds(&mut load, &mut ours, &mut theirs, rounds);
@@ -177,7 +182,7 @@ fn trainings(load: &mut Load, rounds: usize) {
             });
             let mut known = Vec::new();
             let other = timed(s * n, || {
-                known = oracle::train(&goko_priors, &given, rate).expect("goko trains").1;
+                known = oracle::train(&goko_priors, i32::MIN, &given, rate).expect("goko trains").1;
             });
             // A hash map's sums go in another order.
             assert!(same_figures(&trained, &known) || !hashbrown::ORDERED, "both have the same baseline");

@@ -47,7 +47,7 @@ pub fn filled(load: &mut Load, capacity: usize) -> (Memory, State, Goko) {
         Memory { book: vec![0; ENTRY_BYTES * capacity], queue: vec![0; PLACE_BYTES * WINDOW as usize] };
     let mut ours = Tracker::open(WINDOW, &mut memory.book, &mut memory.queue).expect("the sizes are taken");
     let mut theirs = Goko::open(WINDOW as usize);
-    theirs.lend_priors(&goko_priors(load));
+    theirs.lend_priors(&goko_priors(load), i32::MIN);
     oracle::lend_tables(&load.tables.g, &load.tables.d);
     let mut add = |path: Vec<Address>| {
         ours.add_path(&path).expect("the book has room");

@@ -4,7 +4,7 @@
 use crate::paths::{lent_path, path, universe};
 use crate::rng::Rng;
 use recount::limits::{ENTRY_BYTES, MAX_ACCEPTED, MAX_COUNT, MAX_WINDOW, PLACE_BYTES};
-use recount::{path_bytes, Address, State};
+use recount::{path_bytes, Address, Memory, State};
 
 /// An add with all that it is lent.
 #[derive(Debug, Clone)]
@@ -17,6 +17,13 @@ pub struct AlteredAdd {
     pub queue: Vec<u8>,
     /// The path's bytes.
     pub path: Vec<u8>,
+}
+
+impl AlteredAdd {
+    /// The tracker as it is lent to a reading.
+    pub fn memory(&self) -> Memory<'_> {
+        Memory { state: self.state, book: &self.book, queue: &self.queue }
+    }
 }
 
 /// An add on altered memory, with a queue of at most `places` places.

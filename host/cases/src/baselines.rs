@@ -1,10 +1,10 @@
 //! Trainings, good and refused, and baselines to ask `stats` of.
 
 use crate::calls::{PriorBytes, Tables};
-use crate::paths::{path, universe};
+use crate::paths::{path, universe_around};
 use crate::rng::Rng;
 use crate::{priors, tables};
-use recount::limits::{ENTRY_BYTES, KNOT_VALUES, PLACE_BYTES};
+use recount::limits::{ENTRY_BYTES, KNOT_VALUES, PLACE_BYTES, STEP_BYTES};
 use recount::{path_bytes, Address, Baseline, Refusal, Sequences};
 
 /// A training with all that it is lent.
@@ -38,12 +38,25 @@ impl Training {
         let mut baseline = Baseline { knots: &mut self.knots, values: &mut self.values };
         recount::train(self.tables.lent(), self.priors.lent(), &mut self.book, sequences, &mut baseline)
     }
+
+    /// The paths in whole places, each cut at 64 steps.
+    pub fn given_paths(&self) -> impl Iterator<Item = Vec<Address>> + '_ {
+        self.places.chunks_exact(PLACE_BYTES).map(|place| {
+            let length = u32::from_le_bytes([place[0], place[1], place[2], place[3]]) as usize;
+            place[4..].chunks(STEP_BYTES).take(length).map(Address::read).collect()
+        })
+    }
+
+    /// The steps of all these paths.
+    pub fn nodes(&self) -> Vec<Address> {
+        self.given_paths().flatten().collect()
+    }
 }
 
-/// A training of at most `sequences` times `paths` paths.
-pub fn training(rng: &mut Rng, sequences: usize, paths: usize) -> Training {
+/// A training of at most `sequences` times `paths` paths, lent priors with this floor.
+pub fn training(rng: &mut Rng, (sequences, paths): (usize, usize), floor: i32) -> Training {
     let count = rng.between(1, 3);
-    let addresses = universe(rng, count);
+    let addresses = universe_around(rng, count, floor);
     let (s, n) = (rng.between(1, sequences), rng.between(0, paths));
     let rate = rng.between(1, 3);
     let places = (0..s * n).flat_map(|_| place(rng, &addresses)).collect();
@@ -52,6 +65,7 @@ pub fn training(rng: &mut Rng, sequences: usize, paths: usize) -> Training {
         0 => priors::sparse(rng, &addresses, most, 85),
         _ => priors::whole(rng, &addresses, most),
     };
+    let lent_priors = priors::floored(rng, lent_priors, floor);
     let last = (count + 1) * most + rng.pick(&[0, n, 3 * n, 3 * n]);
     let knots = n.div_ceil(rate) + rng.pick(&[0, 0, 1, 2]);
     let values = KNOT_VALUES * knots + rng.pick(&[0, 0, 3]);
@@ -92,7 +106,7 @@ fn damage(rng: &mut Rng, training: &mut Training, addresses: &[Address]) {
         4 => training.knots.truncate(training.knots.len() / 2),
         5 => training.values.truncate(training.values.len().saturating_sub(rng.between(1, 25))),
         6 => training.book.truncate(training.book.len() - rng.between(1, ENTRY_BYTES)),
-        7 => training.priors = priors::damaged(rng, addresses),
+        7 => training.priors = PriorBytes { floor: training.priors.floor, ..priors::damaged(rng, addresses) },
         _ if !training.places.is_empty() => {
             let start = PLACE_BYTES * rng.below(training.places.len() / PLACE_BYTES);
             let length: u32 = rng.pick(&[0, 65, u32::MAX]);

@@ -1,6 +1,6 @@
 //! Calls as data, each with all its arguments.
 
-use recount::{same_figures, Address, LentPriors, LentTables, Output};
+use recount::{same_figures, Address, LentPriors, LentTables, Output, Tracker};
 
 /// Lent tables, owned.
 #[derive(Debug, Clone, Default)]
@@ -95,6 +95,17 @@ impl Call {
             | Call::EvidenceProbVector { output, .. }
             | Call::AllNodeKl { output } => Some(output),
             _ => None,
+        }
+    }
+
+    /// The nodes whose priors a reading of the tracker looks up.
+    pub fn looked_up(&self, tracker: &impl Tracker) -> Vec<Address> {
+        match self {
+            Call::ProbVector { node, .. } | Call::PosteriorKlDivergence { node } => vec![*node],
+            Call::AllNodeKl { .. } | Call::KlDivStats => {
+                tracker.evidence().map(|evidence| evidence.nodes.into_keys().collect()).unwrap_or_default()
+            }
+            _ => Vec::new(),
         }
     }
 }

@@ -1,30 +1,34 @@
 //! Every short list over two addresses: all paths of up to `steps` steps, all lists of `adds`
-//! of them, for given windows and capacities, with all readings at the end.
+//! of them, for given windows and capacities, with all readings at the end. With a floor the two
+//! addresses have one point.
 
 use crate::calls::{Call, CallList, Places, PriorBytes, Tables};
 use crate::rng::Rng;
 use crate::{priors, tables};
 use recount::limits::{ENTRY_BYTES, PLACE_BYTES};
-use recount::{path_bytes, Address};
+use recount::{check_priors, path_bytes, record_bytes, Address};
 
 /// The two addresses, ordered by signed scale.
-pub const ADDRESSES: [Address; 2] = [Address::new(-1, 7), Address::new(0, 3)];
+const ADDRESSES: [Address; 2] = [Address::new(-1, 7), Address::new(0, 3)];
+
+/// Two addresses with one point.
+const ONE_POINT: [Address; 2] = [Address::new(-1, 7), Address::new(0, 7)];
 
 /// All paths of 1 to `steps` steps over the two addresses.
-pub fn paths(steps: usize) -> Vec<Vec<Address>> {
+fn paths(addresses: [Address; 2], steps: usize) -> Vec<Vec<Address>> {
     let mut longest: Vec<Vec<Address>> = vec![Vec::new()];
     let mut all = Vec::new();
     for _ in 0..steps {
         longest =
-            longest.iter().flat_map(|path| ADDRESSES.map(|step| [&path[..], &[step]].concat())).collect();
+            longest.iter().flat_map(|path| addresses.map(|step| [&path[..], &[step]].concat())).collect();
         all.extend(longest.clone());
     }
     all
 }
 
 /// Calls `each` with every list of up to four paths of up to two steps, and of two paths of up to
-/// three, with whole priors, with priors that lack something, and with tables that end early. Ends
-/// at the first that `each` fails on.
+/// three, with whole priors, with priors that lack something, and with tables that end early; and of
+/// two paths of up to three steps with priors under a floor. Ends at the first that `each` fails on.
 pub fn each_short_list<E>(mut each: impl FnMut(&CallList) -> Result<(), E>) -> Result<(), E> {
     let mut rng = Rng::new(0);
     let gamma = tables::gamma(24);
@@ -35,29 +39,49 @@ pub fn each_short_list<E>(mut each: impl FnMut(&CallList) -> Result<(), E>) -> R
         for (capacities, size) in
             [(&[1, 2, 3, 4, 5, 6][..], (2, 3)), (&[5, 6][..], (2, 4)), (&[6][..], (3, 2))]
         {
-            each_list(&[0, 1, 2, 3], capacities, size, lent, &mut each)?;
+            each_list(ADDRESSES, capacities, size, lent, &mut each)?;
         }
+    }
+    for lent in under_floors().iter().filter(|lent| check_priors(lent.lent()).is_ok()) {
+        each_list(ONE_POINT, &[6], (3, 2), (&gamma, lent), &mut each)?;
     }
     Ok(())
 }
 
+/// Priors whose records all have one point, at every choice of scales from -2 to 1, with every floor
+/// from -1 to 2. Each knows two addresses as children.
+pub fn under_floors() -> Vec<PriorBytes> {
+    let children = [record_bytes(ONE_POINT[0], 2, 2), record_bytes(ONE_POINT[1], 1, 0)].concat();
+    let mut lent = Vec::new();
+    for floor in -1..=2 {
+        for chosen in 1..16_u32 {
+            let scales = (-2..=1).filter(|scale| chosen & (1 << (scale + 2)) != 0);
+            // The counts tell the records apart.
+            let node = |scale: i32| record_bytes(Address::new(scale, 7), (scale + 3) as u32, 1);
+            let nodes = scales.flat_map(node).collect();
+            lent.push(PriorBytes { nodes, children: children.clone(), floor });
+        }
+    }
+    lent
+}
+
 /// Calls `each` with every list of exactly `adds` paths.
 fn each_list<E>(
-    windows: &[u32],
+    addresses: [Address; 2],
     capacities: &[usize],
     (steps, adds): (usize, usize),
     (tables, priors): (&Tables, &PriorBytes),
     mut each: impl FnMut(&CallList) -> Result<(), E>,
 ) -> Result<(), E> {
-    let paths: Vec<Vec<u8>> = paths(steps).iter().map(|path| path_bytes(path)).collect();
-    for window in windows {
+    let paths: Vec<Vec<u8>> = paths(addresses, steps).iter().map(|path| path_bytes(path)).collect();
+    for window in [0, 1, 2, 3] {
         for capacity in capacities {
             for number in 0..paths.len().pow(adds as u32) {
-                let mut calls = opening(*window, *capacity);
+                let mut calls = opening(window, *capacity);
                 calls.push(Call::LendTables(tables.clone()));
                 calls.push(Call::LendPriors(priors.clone()));
                 calls.extend(chosen(&paths, adds, number));
-                calls.extend(readings());
+                calls.extend(readings(addresses));
                 each(&CallList { fill: 0xa5, calls })?;
             }
         }
@@ -81,10 +105,10 @@ fn chosen(paths: &[Vec<u8>], adds: usize, mut number: usize) -> Vec<Call> {
 }
 
 /// All five readings, of both addresses where a reading is of one node.
-fn readings() -> Vec<Call> {
+fn readings(addresses: [Address; 2]) -> Vec<Call> {
     let output = || Places { addresses: vec![0x11; 24], figures: vec![-1.0; 3] };
     let mut calls = vec![Call::AllNodeKl { output: output() }, Call::KlDivStats];
-    for node in ADDRESSES {
+    for node in addresses {
         calls.push(Call::ProbVector { node, output: output() });
         calls.push(Call::EvidenceProbVector { node, output: output() });
         calls.push(Call::PosteriorKlDivergence { node });

@@ -2,7 +2,7 @@
 //! and outputs can be a little too small, just large enough, or larger.
 
 use crate::calls::{Call, CallList, Places, PriorBytes, Tables};
-use crate::paths::{lent_path, universe, FOREIGN};
+use crate::paths::{below, floor, lent_path, universe_around, FOREIGN};
 use crate::play::{Answer, History, Player};
 use crate::rng::Rng;
 use crate::{priors, tables};
@@ -33,6 +33,8 @@ pub struct Shape {
     pub counts: Vec<usize>,
     /// Whether books may be too small for the paths.
     pub short_books: bool,
+    /// Of a hundred lists, how many have a floor with scales below it.
+    pub floors: usize,
 }
 
 impl Shape {
@@ -48,6 +50,7 @@ impl Shape {
             openings: 2,
             counts: vec![1, 3, 10],
             short_books: true,
+            floors: 33,
         }
     }
 
@@ -63,6 +66,7 @@ impl Shape {
             openings: 1,
             counts: vec![10],
             short_books: false,
+            floors: 50,
         }
     }
 }
@@ -70,8 +74,9 @@ impl Shape {
 /// A call list of at most that size.
 pub fn call_list(rng: &mut Rng, shape: &Shape) -> CallList {
     let count = rng.between(1, shape.addresses);
-    let mut maker =
-        Maker { universe: universe(rng, count), player: Player::new(History::default()), calls: Vec::new() };
+    let floor = if shape.floors == 0 { i32::MIN } else { floor(rng, shape.floors) };
+    let universe = universe_around(rng, count, floor);
+    let mut maker = Maker { universe, floor, player: Player::new(History::default()), calls: Vec::new() };
     for _ in 0..rng.between(1, shape.openings) {
         maker.stretch(rng, shape);
     }
@@ -80,6 +85,7 @@ pub fn call_list(rng: &mut Rng, shape: &Shape) -> CallList {
 
 struct Maker {
     universe: Vec<Address>,
+    floor: i32,
     player: Player<History>,
     calls: Vec<Call>,
 }
@@ -130,6 +136,7 @@ impl Maker {
             3..=5 => priors::fewer_nodes(rng, &self.universe, most),
             _ => priors::whole(rng, &self.universe, most),
         };
+        let lent_priors = self.with_floor(rng, lent_priors);
         let last = self.table_end(rng, &lent_priors, ahead);
         let lent_tables: Tables = match rng.below(12) {
             0 => tables::damaged(rng, last),
@@ -139,12 +146,28 @@ impl Maker {
         self.call(Call::LendTables(lent_tables));
     }
 
+    /// The list's floor, now and then one next to it or none.
+    fn with_floor(&self, rng: &mut Rng, lent_priors: PriorBytes) -> PriorBytes {
+        if self.floor == i32::MIN {
+            return lent_priors;
+        }
+        let near = [self.floor - 1, self.floor.saturating_add(1), i32::MIN];
+        let floor = if rng.chance(20) { rng.pick(&near) } else { self.floor };
+        if check_priors(lent_priors.lent()).is_err() {
+            return PriorBytes { floor, ..lent_priors };
+        }
+        priors::floored(rng, lent_priors, floor)
+    }
+
     /// A last index: the greatest U, or around it, or `ahead` past it.
     fn table_end(&self, rng: &mut Rng, lent_priors: &PriorBytes, ahead: usize) -> usize {
         let evidence = self.player.side.evidence().expect("the recount's tracker is in form");
-        let total = |address: &Address| evidence.nodes.get(address).map_or(0, |node| node.total());
-        let nodes = check_priors(lent_priors.lent()).map(|checked| checked.nodes).unwrap_or_default();
-        let greatest = nodes.iter().map(|prior| prior.total() + total(&prior.address)).max();
+        let greatest = check_priors(lent_priors.lent()).ok().and_then(|checked| {
+            let seen = evidence.nodes.iter().filter_map(|(node, counted)| {
+                checked.node(*node).map(|prior| prior.total() + counted.total())
+            });
+            seen.chain(checked.nodes.iter().map(|prior| prior.total())).max()
+        });
         let greatest = greatest.unwrap_or(1).min(100) as usize;
         let last = match rng.below(8) {
             0 => greatest - 1,
@@ -181,6 +204,9 @@ impl Maker {
         let listed: Vec<Address> = evidence.nodes.keys().copied().collect();
         match rng.below(10) {
             0 => FOREIGN,
+            1 if self.floor != i32::MIN => {
+                Address::new(below(rng, self.floor), rng.pick(&self.universe).point)
+            }
             1 | 2 => rng.pick(&self.universe),
             _ if listed.is_empty() => rng.pick(&self.universe),
             _ => rng.pick(&listed),

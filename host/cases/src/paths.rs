@@ -7,6 +7,9 @@ use recount::{path_bytes, Address};
 const SCALES: [i32; 8] = [-3, -2, -1, 0, 1, 2, i32::MIN, i32::MAX];
 const POINTS: [u32; 8] = [0, 1, 2, 9, 255, 256, 0x8000_0000, u32::MAX];
 
+/// Floors with scales of either side, and those at the ends of the range that have some below.
+const FLOORS: [i32; 9] = [-2, -1, 0, 1, 2, i32::MIN + 1, i32::MIN + 2, i32::MAX - 1, i32::MAX];
+
 /// An address that no universe holds.
 pub const FOREIGN: Address = Address::new(5, 5);
 
@@ -20,6 +23,42 @@ pub fn universe(rng: &mut Rng, count: usize) -> Vec<Address> {
         }
     }
     addresses
+}
+
+/// In `percent` of a hundred cases a floor that has scales below it.
+pub fn floor(rng: &mut Rng, percent: usize) -> i32 {
+    if rng.chance(percent) {
+        rng.pick(&FLOORS)
+    } else {
+        i32::MIN
+    }
+}
+
+/// `count` different addresses, at most 8; with a floor on both sides of it, with few points, so
+/// that some share one.
+pub fn universe_around(rng: &mut Rng, count: usize, floor: i32) -> Vec<Address> {
+    if floor == i32::MIN {
+        return universe(rng, count);
+    }
+    let points = [rng.pick(&POINTS), rng.pick(&POINTS), 7];
+    let mut addresses: Vec<Address> = Vec::new();
+    while addresses.len() < count {
+        let scale = if rng.chance(70) {
+            below(rng, floor)
+        } else {
+            rng.pick(&[floor, floor.saturating_add(1), i32::MAX])
+        };
+        let address = Address::new(scale, rng.pick(&points));
+        if !addresses.contains(&address) {
+            addresses.push(address);
+        }
+    }
+    addresses
+}
+
+/// A scale below the floor, which is not the least.
+pub fn below(rng: &mut Rng, floor: i32) -> i32 {
+    rng.pick(&[floor - 1, floor.saturating_sub(2), floor.saturating_sub(3), i32::MIN])
 }
 
 /// A path of 1 to `most` steps over the universe; every fifth step repeats the one before.

@@ -150,6 +150,18 @@ impl Answer {
         }
     }
 
+    /// The refusal that it is, if it is one.
+    pub fn refusal(&self) -> Option<Refusal> {
+        match self {
+            Answer::Lent => None,
+            Answer::Changed(answer) => answer.err(),
+            Answer::Vector(answer, _) => answer.err(),
+            Answer::Divergence(answer) => answer.err(),
+            Answer::List(answer, _) => answer.err(),
+            Answer::Stats(answer) => answer.err(),
+        }
+    }
+
     /// The figures of the answer: those in its result, then those of the places that it filled.
     pub fn told(&self) -> Vec<f64> {
         let filled = |places: u32, output: &Places| -> Vec<f64> {

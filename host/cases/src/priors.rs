@@ -1,9 +1,13 @@
 //! Priors: whole ones that know every child, ones that lack nodes and children, with chains
-//! that interleave and share tails, and damaged ones.
+//! that interleave and share tails, ones whose records below a floor lie at other scales than the
+//! nodes, and damaged ones.
 
 use crate::calls::PriorBytes;
+use crate::paths::{below, floor, universe_around};
 use crate::rng::Rng;
+use recount::limits::{RECORD_BYTES, STEP_BYTES};
 use recount::{record_bytes, Address};
+use std::collections::BTreeMap;
 use std::ops::Range;
 
 /// One record of either kind.
@@ -107,16 +111,61 @@ fn share_tails(rng: &mut Rng, records: &mut Records) {
     }
 }
 
+/// The same with a floor: of the node records below it that have one point one stays, at some scale
+/// below it. Now and then one stands at the floor itself, too, or 22 has two to refuse.
+pub fn floored(rng: &mut Rng, priors: PriorBytes, floor: i32) -> PriorBytes {
+    if floor == i32::MIN {
+        return priors;
+    }
+    let mut nodes: BTreeMap<Address, &[u8]> = BTreeMap::new();
+    let mut fine: BTreeMap<u32, &[u8]> = BTreeMap::new();
+    for record in priors.nodes.chunks(RECORD_BYTES) {
+        let address = Address::read(record);
+        if address.scale >= floor {
+            nodes.insert(address, record);
+        } else if rng.chance(60) || !fine.contains_key(&address.point) {
+            fine.insert(address.point, record);
+        }
+    }
+    for (point, record) in &fine {
+        let own = Address::read(record).scale;
+        let scale = if rng.chance(30) { own } else { below(rng, floor) };
+        nodes.insert(Address::new(scale, *point), record);
+        let other = match rng.below(12) {
+            0 => floor,
+            1 => below(rng, floor),
+            _ => continue,
+        };
+        nodes.entry(Address::new(other, *point)).or_insert(record);
+    }
+    let moved = |(address, record): (Address, &[u8])| [&address.bytes()[..], &record[STEP_BYTES..]].concat();
+    PriorBytes { nodes: nodes.into_iter().flat_map(moved).collect(), floor, ..priors }
+}
+
 /// Good priors with one thing changed, often to something that 3 to 7 refuse.
 pub fn damaged(rng: &mut Rng, universe: &[Address]) -> PriorBytes {
     let mut priors = sparse(rng, universe, 4, 70);
+    damage(rng, &mut priors);
+    priors
+}
+
+/// Priors over few addresses, a third of them with a floor, which are often refused.
+pub fn refusable(rng: &mut Rng) -> PriorBytes {
+    let (count, floor) = (rng.between(1, 5), floor(rng, 33));
+    let universe = universe_around(rng, count, floor);
+    let good = sparse(rng, &universe, 4, 70);
+    let mut priors = floored(rng, good, floor);
+    damage(rng, &mut priors);
+    priors
+}
+
+fn damage(rng: &mut Rng, priors: &mut PriorBytes) {
     match rng.below(10) {
         0 | 1 => swap_fields(rng, &mut priors.children, 0..8),
         2 => set_field(rng, &mut priors.children, 2),
         3 => set_field(rng, &mut priors.children, 3),
-        _ => damage_either(rng, &mut priors),
+        _ => damage_either(rng, priors),
     }
-    priors
 }
 
 fn damage_either(rng: &mut Rng, priors: &mut PriorBytes) {

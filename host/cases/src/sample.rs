@@ -6,11 +6,11 @@ use crate::altered::{altered_add, AlteredAdd};
 use crate::baselines::{self, StatsAsked, Training};
 use crate::calls::{Call, CallList, Places, PriorBytes, Tables};
 use crate::lists::{call_list, Shape};
-use crate::paths::{path, universe};
+use crate::paths::{below, floor, path, universe, universe_around};
 use crate::rng::Rng;
 use crate::{priors, tables};
 use recount::limits::{ENTRY_BYTES, MAX_ENTRIES, MAX_WINDOW, PLACE_BYTES};
-use recount::{check_priors, check_tables, memory, path_bytes, Address, Refusal};
+use recount::{check_priors, check_tables, memory, path_bytes, record_bytes, Address, Priors, Refusal};
 use std::collections::BTreeMap;
 
 /// Cases of 200 seeds from `seed` on: at most `answered` that are not refused, and `refused` of
@@ -39,7 +39,7 @@ fn refusal_number<T>(result: Result<T, Refusal>) -> u32 {
 
 /// Lists of openings and adds.
 pub fn call_lists() -> Vec<CallList> {
-    let short = Shape { readings: 0, adds: (0, 8), bad_paths: 3, ..Shape::small() };
+    let short = Shape { readings: 0, adds: (0, 8), bad_paths: 3, floors: 0, ..Shape::small() };
     (0..80).map(|seed| call_list(&mut Rng::new(1_000 + seed), &short)).collect()
 }
 
@@ -67,7 +67,8 @@ pub fn large_lists() -> Vec<CallList> {
     vec![list(around.concat()), list(passed.concat())]
 }
 
-/// Lists with readings in between, and two whose divergence is plus zero only by the order of its sums.
+/// Lists with readings in between, some with floors, and two whose divergence is plus zero only by the
+/// order of its sums.
 pub fn reading_lists() -> Vec<CallList> {
     let shape = Shape {
         addresses: 4,
@@ -76,13 +77,48 @@ pub fn reading_lists() -> Vec<CallList> {
         bad_paths: 1,
         readings: 30,
         counts: vec![1, 3],
+        floors: 0,
         ..Shape::small()
     };
     let random = (0..42).map(|seed| call_list(&mut Rng::new(3_500 + seed), &shape));
+    let floored = Shape { floors: 100, ..shape.clone() };
+    let floored = (0..8).map(|seed| call_list(&mut Rng::new(3_600 + seed), &floored));
     // Without the empty sums the first would be minus zero, with sums begun by their first term
     // the second.
     let zeros = [plus_zero(0, &[0.0, -0.0, 0.0]), plus_zero(1, &[0.0, 0.0, -0.0, 0.0])];
-    random.chain(zeros).collect()
+    random.chain(zeros).chain(floored).chain([around_a_floor()]).collect()
+}
+
+/// Two listed nodes below the floor with one prior, whose record has a third scale, and one at the floor
+/// with its own; then no floor, one that is refused, and the first again with a child that the prior
+/// lacks.
+fn around_a_floor() -> CallList {
+    let at = |scale: i32| Address::new(scale, 7);
+    let lend = |floor: i32| {
+        let nodes = [record_bytes(at(-5), 1, 1), record_bytes(at(0), 2, 0)].concat();
+        let children = [record_bytes(at(-3), 2, 2), record_bytes(at(-1), 1, 0)].concat();
+        Call::LendPriors(PriorBytes { nodes, children, floor })
+    };
+    let add = |path: &[Address]| Call::Add { path: path_bytes(path) };
+    let output = Places { addresses: vec![0x33; 24], figures: vec![-1.0; 3] };
+    let readings = || {
+        let one = |scale: i32| {
+            let (node, output) = (at(scale), output.clone());
+            [Call::ProbVector { node, output }, Call::PosteriorKlDivergence { node }]
+        };
+        let all = [Call::AllNodeKl { output: output.clone() }, Call::KlDivStats];
+        [-9, -3, -1, 0, 1].into_iter().flat_map(one).chain(all)
+    };
+    let open = Call::Open { window: 3, book_len: 7 * ENTRY_BYTES, queue_len: 3 * PLACE_BYTES };
+    let mut calls = vec![Call::LendTables(tables::gamma(12)), open];
+    calls.extend([add(&[at(-3), at(-1)]), add(&[at(-1)]), add(&[at(0)])]);
+    for floor in [0, i32::MIN, 1] {
+        calls.push(lend(floor));
+        calls.extend(readings());
+    }
+    calls.extend([lend(0), add(&[at(-1), at(-2)])]);
+    calls.extend(readings());
+    CallList { fill: 0xa5, calls }
 }
 
 /// One path of one step, with a prior of one child and D of zeros: the divergence is plus zero. The
@@ -113,10 +149,24 @@ pub fn altered_adds() -> Vec<AlteredAdd> {
     balanced(4_000, (30, 18), |rng| altered_add(rng, 3), number)
 }
 
-/// Trainings.
+/// Trainings, some with floors: of those that are answered, ones that find a prior by point alone.
 pub fn trainings() -> Vec<Training> {
     let number = |training: &Training| refusal_number(training.clone().run());
-    balanced(5_000, (12, 4), |rng| baselines::training(rng, 3, 4), number)
+    let mut cases = balanced(5_000, (12, 4), |rng| baselines::training(rng, (3, 4), i32::MIN), number);
+    let floored = |rng: &mut Rng| {
+        let floor = floor(rng, 100);
+        baselines::training(rng, (2, 3), floor)
+    };
+    let by_point = |training: &Training| {
+        let found = |priors: Priors| training.nodes().iter().any(|node| priors.found_by_point(*node));
+        check_priors(training.priors.lent()).is_ok_and(found)
+    };
+    let met = |training: &Training| match number(training) {
+        0 => by_point(training),
+        number => number == 22,
+    };
+    cases.extend(balanced(5_500, (4, 2), floored, number).into_iter().filter(met));
+    cases
 }
 
 /// Baselines with the lengths they are asked for, and those of the minus zeros.
@@ -152,7 +202,35 @@ pub fn priors_cases() -> Vec<PriorsCase> {
             vec![(Address::new(1, 0), Address::new(0, 62)), (Address::new(1, 0), Address::new(0, 63))];
         cases.push(PriorsCase { priors: priors::long_chain(length), asked });
     }
+    cases.extend(balanced(8_500, (6, 2), floored_priors, number));
+    cases.extend([i32::MIN, i32::MIN + 1, i32::MAX - 1, i32::MAX].map(priors_at_the_ends));
     cases
+}
+
+/// Priors with a floor, and look-ups of nodes at scales on both sides of it.
+fn floored_priors(rng: &mut Rng) -> PriorsCase {
+    let floor = floor(rng, 100);
+    let addresses = universe_around(rng, 4, floor);
+    let good = priors::sparse(rng, &addresses, 9, 70);
+    let priors = priors::floored(rng, good, floor);
+    let asked = addresses.iter().map(|address| {
+        let fine = below(rng, floor);
+        let scale = rng.pick(&[fine, address.scale, floor]);
+        (Address::new(scale, address.point), rng.pick(&addresses))
+    });
+    PriorsCase { asked: asked.collect(), priors }
+}
+
+/// Records at the ends of the scales' range, with a floor there.
+fn priors_at_the_ends(floor: i32) -> PriorsCase {
+    let records = [(i32::MIN, 7), (i32::MAX - 1, 7), (i32::MAX, 3)];
+    let node = |(scale, point): (i32, u32)| record_bytes(Address::new(scale, point), point, 0);
+    let priors =
+        PriorBytes { nodes: records.into_iter().flat_map(node).collect(), floor, ..PriorBytes::default() };
+    let asked = [i32::MIN, i32::MIN + 1, i32::MAX - 1, i32::MAX]
+        .into_iter()
+        .flat_map(|scale| [7, 3].map(|point| (Address::new(scale, point), Address::default())));
+    PriorsCase { priors, asked: asked.collect() }
 }
 
 fn random_priors(rng: &mut Rng) -> PriorsCase {

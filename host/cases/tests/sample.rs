@@ -4,7 +4,7 @@
 use cases::calls::CallList;
 use cases::play::{Answer, History, Player, Side};
 use cases::sample;
-use recount::{check_priors, check_tables, memory, Refusal, Tracker};
+use recount::{check_priors, check_tables, memory, Priors, Refusal, Tracker};
 use std::collections::BTreeMap;
 
 #[derive(Default)]
@@ -17,6 +17,7 @@ struct Seen {
     divergences: u32,
     lists: u32,
     stats: u32,
+    by_point: u32,
 }
 
 impl Seen {
@@ -28,7 +29,13 @@ impl Seen {
     fn list(&mut self, list: &CallList) {
         let mut player = Player::new(History::default());
         for call in &list.calls {
-            match player.play(call) {
+            let answer = player.play(call);
+            if answer.refusal().is_none() {
+                let nodes = call.looked_up(&player.side);
+                let found = |priors: Priors| nodes.iter().any(|node| priors.found_by_point(*node));
+                self.by_point += u32::from(check_priors(player.priors.lent()).is_ok_and(found));
+            }
+            match answer {
                 Answer::Lent => {}
                 Answer::Changed(answer) => {
                     self.result(&answer);
@@ -90,7 +97,7 @@ fn seen() -> Seen {
 fn every_number_comes_up() {
     let seen = seen();
     println!("{:?}", seen.numbers);
-    for number in 0..=18 {
+    for number in (0..=18).chain([22]) {
         assert!(seen.numbers.contains_key(&number), "{} does not come up: {:?}", number, seen.numbers);
     }
 }
@@ -106,6 +113,7 @@ fn every_kind_of_answer_comes_up() {
         ("a divergence above zero", seen.divergences),
         ("a list of more than one node", seen.lists),
         ("statistics over more than one node", seen.stats),
+        ("a prior found by point alone", seen.by_point),
     ] {
         println!("{}: {}", what, count);
         assert!(count >= 10, "{} comes up {} times", what, count);
@@ -119,7 +127,7 @@ fn trainings_end_in_every_way() {
         seen.result(&training.run());
     }
     println!("trainings {:?}", seen.numbers);
-    for number in [0, 9, 10, 12, 13, 14, 15, 16] {
+    for number in [0, 9, 10, 12, 13, 14, 15, 16, 22] {
         assert!(seen.numbers.contains_key(&number), "{}: {:?}", number, seen.numbers);
     }
 }
@@ -130,7 +138,7 @@ fn priors_and_tables_are_refused_in_every_way() {
     sample::table_cases().iter().for_each(|tables| seen.result(&check_tables(tables.lent())));
     sample::priors_cases().iter().for_each(|case| seen.result(&check_priors(case.priors.lent())));
     println!("priors {:?}", seen.numbers);
-    for number in 0..=7 {
+    for number in (0..=7).chain([22]) {
         assert!(seen.numbers.get(&number) >= Some(&3), "{}: {:?}", number, seen.numbers);
     }
 }

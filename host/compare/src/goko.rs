@@ -1,13 +1,13 @@
 //! Holds answers against goko's, the recount's or the archive's. Where they refuse by a limit
-//! that goko does not have, nothing is compared; where they refuse with 14, 15 or 18, goko must
-//! break off, or give none for 14 of a single node.
+//! that goko does not have, or where goko's index of a layer leaves 32 bits, nothing is compared;
+//! where they refuse with 14, 15 or 18, goko must break off, or give none for 14 of a single node.
 
 use crate::{Compared, Tally};
 use cases::baselines::{StatsAsked, Training};
 use cases::calls::{Call, CallList, Places, PriorBytes};
 use cases::play::{Answer, History, Player, Side};
 use oracle::{Goko, NodeAddress, Panic};
-use recount::limits::{KNOT_VALUES, PLACE_BYTES, RECORD_BYTES};
+use recount::limits::{KNOT_VALUES, RECORD_BYTES};
 use recount::{check_priors, same_figure, Address, Evidence, Refusal, Tracker};
 
 /// goko's form of an address.
@@ -95,6 +95,10 @@ impl Beside {
         played: &Player<History>,
         tally: &mut Tally,
     ) -> Compared {
+        let answered = matches!(answer.refusal(), None | Some(Refusal { number: 14 | 15, .. }));
+        if answered && !tally.floors.goko_answers(&call.looked_up(&played.side), &played.priors) {
+            return Ok(());
+        }
         match answer {
             Answer::Lent => self.lend(played),
             Answer::Changed(Ok(())) => self.change(call, played, tally)?,
@@ -109,7 +113,7 @@ impl Beside {
 
     fn lend(&mut self, played: &Player<History>) {
         oracle::lend_tables(&played.tables.g, &played.tables.d);
-        self.0.lend_priors(&goko_priors(&played.priors));
+        self.0.lend_priors(&goko_priors(&played.priors), played.priors.floor);
     }
 
     fn change(&mut self, call: &Call, played: &Player<History>, tally: &mut Tally) -> Compared {
@@ -276,9 +280,13 @@ pub fn hold_training(
             return Ok(());
         }
     }
+    if !tally.floors.goko_answers(&training.nodes(), &training.priors) {
+        return Ok(());
+    }
     oracle::lend_tables(&training.tables.g, &training.tables.d);
     let sequences = goko_sequences(training);
-    let theirs = oracle::train(&goko_priors(&training.priors), &sequences, training.rate as usize);
+    let priors = goko_priors(&training.priors);
+    let theirs = oracle::train(&priors, training.priors.floor, &sequences, training.rate as usize);
     match (answer, theirs) {
         (Ok(count), Ok((knots, values))) => {
             tally.trainings += 1;
@@ -296,11 +304,8 @@ pub fn hold_training(
 
 /// The sequences of a training that the recount does not refuse with 10.
 fn goko_sequences(training: &Training) -> Vec<Vec<Vec<NodeAddress>>> {
-    let path = |place: &[u8]| {
-        let length = field(place, 0).min(64) as usize;
-        node_addresses(&place[4..4 + 8 * length])
-    };
-    let paths: Vec<Vec<NodeAddress>> = training.places.chunks(PLACE_BYTES).map(path).collect();
+    let path = |path: Vec<Address>| path.into_iter().map(node_address).collect();
+    let paths: Vec<Vec<NodeAddress>> = training.given_paths().map(path).collect();
     let length = training.paths as usize;
     (0..training.sequences as usize).map(|s| paths[s * length..(s + 1) * length].to_vec()).collect()
 }

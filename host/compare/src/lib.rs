@@ -2,12 +2,15 @@
 //! `compare` runs it on many cases, and `through` holds the archive's answers against goko's.
 //! Without goko's sources the module `goko` compares nothing.
 
+mod floors;
 #[cfg(not(no_goko))]
 pub mod goko;
 #[cfg(no_goko)]
 #[path = "no_goko.rs"]
 pub mod goko;
 pub mod own;
+
+pub use floors::Floors;
 
 use cases::play::Answer;
 use recount::Refusal;
@@ -38,24 +41,24 @@ pub struct Tally {
     pub altered: u64,
     /// What the recount gave, by refusal number, 0 for an answer.
     pub numbers: BTreeMap<u32, u64>,
+    /// What was met of floors.
+    pub floors: Floors,
 }
 
 impl Tally {
     /// Counts a result by its number.
     pub fn result<T>(&mut self, result: &Result<T, Refusal>) {
-        let number = result.as_ref().err().map_or(0, |refusal| refusal.number);
-        *self.numbers.entry(number).or_default() += 1;
+        self.refusal(result.as_ref().err());
+    }
+
+    fn refusal(&mut self, refusal: Option<&Refusal>) {
+        *self.numbers.entry(refusal.map_or(0, |refusal| refusal.number)).or_default() += 1;
     }
 
     /// Counts an answer by its number; a lending has none.
     pub fn answer(&mut self, answer: &Answer) {
-        match answer {
-            Answer::Lent => {}
-            Answer::Changed(result) => self.result(result),
-            Answer::Vector(result, _) => self.result(result),
-            Answer::Divergence(result) => self.result(result),
-            Answer::List(result, _) => self.result(result),
-            Answer::Stats(result) => self.result(result),
+        if !matches!(answer, Answer::Lent) {
+            self.refusal(answer.refusal().as_ref());
         }
     }
 
@@ -74,6 +77,15 @@ impl Tally {
         for (number, count) in &other.numbers {
             *self.numbers.entry(*number).or_default() += count;
         }
+        self.floors.join(&other.floors);
+    }
+
+    /// Fails where something of floors was not met at all.
+    pub fn met_floors(&self) -> Compared {
+        match &self.floors.missing()[..] {
+            [] => Ok(()),
+            missing => Err(format!("nothing was compared of: {}", missing.join("; "))),
+        }
     }
 
     /// Prints all of it.
@@ -83,11 +95,12 @@ impl Tally {
             self.lists, self.altered
         );
         println!("the recount's results by refusal number, 0 for an answer: {:?}", self.numbers);
-        self.print_goko();
+        self.print_rest();
     }
 
-    /// Prints what was held against goko, if its sources were there.
-    pub fn print_goko(&self) {
+    /// Prints what was met of floors and, if goko's sources were there, what was held against it.
+    pub fn print_rest(&self) {
+        self.floors.print();
         if oracle::PRESENT {
             println!("with goko, {} figures bit for bit:", self.figures);
             println!("  {} openings and adds, all counts after each", self.changes);

@@ -7,7 +7,7 @@
 use cases::calls::CallList;
 use cases::lists::{call_list, Shape};
 use cases::rng::Rng;
-use cases::{altered, baselines, exhaustive, sample};
+use cases::{altered, baselines, exhaustive, paths, sample};
 use compare::{goko, own, Compared, Tally};
 use std::process::ExitCode;
 
@@ -20,7 +20,7 @@ fn main() -> ExitCode {
         println!("goko's sources were not there: the comparison with goko is left out");
     }
     let mut tally = Tally::default();
-    match everything(lists, seed, &mut tally) {
+    match everything(lists, seed, &mut tally).and_then(|()| tally.met_floors()) {
         Ok(()) => {
             tally.print();
             ExitCode::SUCCESS
@@ -79,7 +79,8 @@ fn recorded_sample(tally: &mut Tally) -> Compared {
 fn one_of_each(rng: &mut Rng, tally: &mut Tally) -> Compared {
     call_list_on_all(&call_list(rng, &Shape::small()), tally)?;
     if rng.chance(25) {
-        training_on_both(&baselines::training(rng, 4, 12), tally)?;
+        let floor = paths::floor(rng, 33);
+        training_on_both(&baselines::training(rng, (4, 12), floor), tally)?;
     }
     if rng.chance(25) {
         stats_on_both(&baselines::stats_asked(rng, 6), tally)?;

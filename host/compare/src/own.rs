@@ -7,13 +7,14 @@ use cases::altered::AlteredAdd;
 use cases::baselines::Training;
 use cases::calls::{Call, CallList, Places};
 use cases::play::{Answer, Bytes, History, Player, Side};
+use cases::priors;
 use cases::rng::Rng;
-use cases::{paths, priors};
 use recount::limits::{ENTRY_BYTES, MAX_CHAIN, MAX_COUNT, PLACE_BYTES};
 use recount::{
     check_priors, evidence_prob_vector, is_minus_zero, memory, same_figure, same_figures, stats, Address,
     Memory, Output, Refusal, State, Tracker,
 };
+use std::collections::BTreeSet;
 
 fn must(holds: bool, what: &str) -> Compared {
     if holds {
@@ -48,6 +49,7 @@ fn check_call(
     let before = shown(&bytes.side);
     let answer = bytes.play(call);
     tally.answer(&answer);
+    tally.floors.reading(call, &answer, &bytes.side, &bytes.priors);
     let recounted = history.play(call);
     must(recounted.same(&answer), &format!("the history answers {:?}, the bytes {:?}", recounted, answer))?;
     must(!answer.told().into_iter().any(is_minus_zero), "a reading told minus zero")?;
@@ -154,6 +156,7 @@ pub fn check_training(training: &Training, tally: &mut Tally) -> Compared {
     let zero_book = |book: &[u8]| book.iter().all(|byte| *byte == 0);
     let answer = after.run();
     tally.result(&answer);
+    tally.floors.training(training, answer);
     match answer {
         Ok(count) => {
             let count = count as usize;
@@ -195,15 +198,14 @@ fn check_trained(trained: &Training, count: usize) -> Compared {
     Ok(())
 }
 
-/// Damaged priors get a number from 3 to 7, or are in order after all.
+/// Damaged priors get a number from 3 to 7 or 22, or are in order after all.
 pub fn check_prior_cases(rng: &mut Rng, tally: &mut Tally) -> Compared {
-    let count = rng.between(1, 5);
-    let universe = paths::universe(rng, count);
-    let lent = priors::damaged(rng, &universe);
+    let lent = priors::refusable(rng);
     let answer = check_priors(lent.lent());
     tally.result(&answer);
     match answer {
-        Err(refusal) => must((3..=7).contains(&refusal.number), "priors are refused with 3 to 7"),
+        Err(Refusal { number: 3..=7 | 22, .. }) => Ok(()),
+        Err(refusal) => Err(format!("priors are refused with {}", refusal.number)),
         Ok(checked) => {
             let ascending = checked.nodes.windows(2).all(|pair| pair[0].address < pair[1].address);
             let in_order = |prior: &recount::Prior| {
@@ -211,7 +213,10 @@ pub fn check_prior_cases(rng: &mut Rng, tally: &mut Tally) -> Compared {
                     && prior.children.windows(2).all(|pair| pair[0].0 < pair[1].0)
                     && prior.total() > 0
             };
-            must(ascending && checked.nodes.iter().all(in_order), "priors out of order were taken")
+            let mut points = BTreeSet::new();
+            let mut below = checked.nodes.iter().filter(|prior| prior.address.scale < checked.floor);
+            let apart = below.all(|prior| points.insert(prior.address.point));
+            must(apart && ascending && checked.nodes.iter().all(in_order), "priors out of order were taken")
         }
     }
 }

@@ -2,7 +2,7 @@
 //! brought into goko's forms, and its answers are handed on.
 
 use crate::caught::{caught, Panic};
-use crate::covertree::{CoverTreeReader, GivenPaths, PriorMap};
+use crate::covertree::{CoverTreeReader, GivenPaths};
 use crate::plugins::discrete::baseline::{
     DirichletBaseline, KLDivergenceBaseline, KLDivergenceBaselineStats,
 };
@@ -11,8 +11,6 @@ use crate::plugins::discrete::dirichlet::Dirichlet;
 use crate::plugins::discrete::tracker::{BayesCategoricalTracker, KLDivergenceStats};
 use crate::printed::take_lines;
 use crate::NodeAddress;
-use std::cell::RefCell;
-use std::rc::Rc;
 
 /// A prior as whole numbers.
 #[derive(Debug, Clone)]
@@ -55,20 +53,18 @@ pub fn lend_tables(ln_gamma: &[f64], digamma: &[f64]) {
 /// One tracker of goko's.
 pub struct Goko {
     tracker: BayesCategoricalTracker<GivenPaths>,
-    priors: Rc<RefCell<PriorMap>>,
 }
 
 impl Goko {
     /// A fresh tracker without priors.
     pub fn open(window: usize) -> Goko {
-        let priors = Rc::new(RefCell::new(PriorMap::new()));
-        let reader = CoverTreeReader::over(priors.clone(), GivenPaths(Vec::new()));
-        Goko { tracker: BayesCategoricalTracker::new(window, reader), priors }
+        let reader = CoverTreeReader::over(GivenPaths(Vec::new()));
+        Goko { tracker: BayesCategoricalTracker::new(window, reader) }
     }
 
-    /// Lends priors to the readings that follow.
-    pub fn lend_priors(&self, priors: &[Prior]) {
-        *self.priors.borrow_mut() = prior_map(priors);
+    /// Lends priors to the readings that follow, in a tree with this floor.
+    pub fn lend_priors(&self, priors: &[Prior], floor: i32) {
+        lend(self.tracker.reader(), priors, floor);
     }
 
     /// `add_path`.
@@ -136,24 +132,25 @@ impl Goko {
 /// ten sums in the order of docs/RULES.md.
 pub fn train(
     priors: &[Prior],
+    floor: i32,
     sequences: &[Vec<Vec<NodeAddress>>],
     rate: usize,
 ) -> Result<(Vec<usize>, Vec<f64>), Panic> {
     let paths = sequences.first().map_or(0, Vec::len);
-    train_with_length(priors, &sequences.concat(), sequences.len(), paths, rate)
+    train_with_length(priors, floor, &sequences.concat(), (sequences.len(), paths), rate)
 }
 
-/// `DirichletBaseline::train` with goko's own settings: the points, the number of sequences,
-/// `sequence_len` and the sample rate.
+/// `DirichletBaseline::train` with goko's own settings: the points, the number of sequences and
+/// `sequence_len`, and the sample rate.
 pub fn train_with_length(
     priors: &[Prior],
+    floor: i32,
     points: &[Vec<NodeAddress>],
-    sequences: usize,
-    sequence_len: usize,
+    (sequences, sequence_len): (usize, usize),
     rate: usize,
 ) -> Result<(Vec<usize>, Vec<f64>), Panic> {
-    let map = Rc::new(RefCell::new(prior_map(priors)));
-    let reader = CoverTreeReader::over(map, GivenPaths(points.to_vec()));
+    let reader = CoverTreeReader::over(GivenPaths(points.to_vec()));
+    lend(&reader, priors, floor);
     let mut training = DirichletBaseline::default();
     training.set_num_sequences(sequences);
     training.set_sequence_len(sequence_len);
@@ -174,8 +171,15 @@ pub fn stats(sequences: usize, knots: &[usize], values: &[f64], length: usize) -
     caught(|| ten_values(&baseline.stats(length)))
 }
 
-fn prior_map(priors: &[Prior]) -> PriorMap {
-    priors.iter().map(|prior| (prior.address, dirichlet(prior))).collect()
+/// The layer of a scale in a tree with this floor, by goko's `internal_index`.
+pub fn layer(floor: i32, scale: i32) -> usize {
+    let reader = CoverTreeReader::over(GivenPaths(Vec::new()));
+    lend(&reader, &[], floor);
+    reader.parameters().internal_index(scale)
+}
+
+fn lend(reader: &CoverTreeReader<GivenPaths>, priors: &[Prior], floor: i32) {
+    reader.lend(priors.iter().map(|prior| (prior.address, dirichlet(prior))), floor);
 }
 
 /// goko's own adding of evidence makes a prior from counts.

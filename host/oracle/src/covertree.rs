@@ -1,7 +1,7 @@
-//! Stands for goko's cover tree: the reader is a map from exact address to prior, and the
-//! point cloud is a list of given paths, a point being a place in that list. No tree lies
-//! behind them, so there are no layers and no `CoverNode` can exist; the methods of goko that
-//! would read one have no part in docs/RULES.md and need only compile.
+//! Stands for goko's cover tree: the reader is a map from layer and point to prior, where goko's own
+//! `internal_index` tells the layer of a scale, and the point cloud is a list of given paths, a
+//! point being a place in that list. No tree lies behind them, so no `CoverNode` can exist; the
+//! methods of goko that would read one have no part in docs/RULES.md and need only compile.
 
 // goko names `len` alone.
 #![allow(clippy::len_without_is_empty)]
@@ -14,8 +14,8 @@ use std::collections::BTreeMap;
 use std::rc::Rc;
 use std::sync::Arc;
 
-/// The priors that a reading is lent, by exact address.
-pub type PriorMap = BTreeMap<NodeAddress, Dirichlet>;
+/// The priors that a reading is lent, by layer and point.
+type PriorMap = BTreeMap<(usize, usize), Dirichlet>;
 
 /// What a tracker's and a training's generic parameter must be able to do.
 pub trait PointCloud {
@@ -41,55 +41,75 @@ impl PointCloud for GivenPaths {
     }
 }
 
-/// The parameters that goko's left-out methods name.
+/// The parameters of a tree.
 pub struct CoverTreeParameters<D: PointCloud> {
+    /// The floor scale: every scale below it is of one layer.
+    pub min_res_index: i32,
     /// The points.
     pub point_cloud: Arc<D>,
 }
 
-impl<D: PointCloud> CoverTreeParameters<D> {
-    /// The layer of a scale: all are one.
-    pub fn internal_index(&self, _scale: i32) -> usize {
-        0
-    }
+// goko's own `internal_index`.
+include!(concat!(env!("OUT_DIR"), "/internal_index.rs"));
+
+/// What is lent to a reader: the priors, in the layers that the parameters tell.
+struct Lent<D: PointCloud> {
+    parameters: Arc<CoverTreeParameters<D>>,
+    priors: PriorMap,
 }
 
-/// The tree reader: lent priors and given paths. The priors can be lent anew at any time.
+/// The tree reader: lent priors and given paths. The priors can be lent anew at any time, with
+/// another floor.
 pub struct CoverTreeReader<D: PointCloud> {
-    priors: Rc<RefCell<PriorMap>>,
-    parameters: Arc<CoverTreeParameters<D>>,
+    lent: Rc<RefCell<Lent<D>>>,
+    point_cloud: Arc<D>,
 }
 
 impl<D: PointCloud> Clone for CoverTreeReader<D> {
     fn clone(&self) -> Self {
-        CoverTreeReader { priors: self.priors.clone(), parameters: self.parameters.clone() }
+        CoverTreeReader { lent: self.lent.clone(), point_cloud: self.point_cloud.clone() }
     }
 }
 
 impl<D: PointCloud> CoverTreeReader<D> {
-    /// A reader over lent priors and a point cloud.
-    pub fn over(priors: Rc<RefCell<PriorMap>>, point_cloud: D) -> Self {
+    /// A reader without priors over a point cloud.
+    pub fn over(point_cloud: D) -> Self {
         let point_cloud = Arc::new(point_cloud);
-        CoverTreeReader { priors, parameters: Arc::new(CoverTreeParameters { point_cloud }) }
+        let parameters =
+            Arc::new(CoverTreeParameters { min_res_index: i32::MIN, point_cloud: point_cloud.clone() });
+        CoverTreeReader {
+            lent: Rc::new(RefCell::new(Lent { parameters, priors: PriorMap::new() })),
+            point_cloud,
+        }
+    }
+
+    /// Lends priors by their addresses, and a floor.
+    pub fn lend(&self, priors: impl Iterator<Item = (NodeAddress, Dirichlet)>, floor: i32) {
+        let parameters =
+            Arc::new(CoverTreeParameters { min_res_index: floor, point_cloud: self.point_cloud.clone() });
+        let layered = |((scale, point), prior)| ((parameters.internal_index(scale), point), prior);
+        let priors = priors.map(layered).collect();
+        *self.lent.borrow_mut() = Lent { parameters, priors };
     }
 
     /// The points.
     pub fn point_cloud(&self) -> &Arc<D> {
-        &self.parameters.point_cloud
+        &self.point_cloud
     }
 
     /// The parameters.
-    pub fn parameters(&self) -> &Arc<CoverTreeParameters<D>> {
-        &self.parameters
+    pub fn parameters(&self) -> Arc<CoverTreeParameters<D>> {
+        self.lent.borrow().parameters.clone()
     }
 
-    /// Asks the prior at exactly this address; none if there is none of the kind asked for.
+    /// Asks the prior of the address's point in the layer of its scale; none if there is none of the
+    /// kind asked for.
     pub fn get_node_plugin_and<T: 'static, F, S>(&self, address: NodeAddress, ask: F) -> Option<S>
     where
         F: FnOnce(&T) -> S,
     {
-        let priors = self.priors.borrow();
-        let prior: &dyn Any = priors.get(&address)?;
+        let lent = self.lent.borrow();
+        let prior: &dyn Any = lent.priors.get(&(lent.parameters.internal_index(address.0), address.1))?;
         prior.downcast_ref::<T>().map(ask)
     }
 

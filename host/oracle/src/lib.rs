@@ -1,5 +1,5 @@
-//! goko's tracker.rs, categorical.rs, dirichlet.rs and baseline.rs, compiled unchanged from
-//! where they lie, and calls on them for the comparison with docs/RULES.md. What the files
+//! goko's tracker.rs, categorical.rs, dirichlet.rs and baseline.rs, and `internal_index` of its
+//! tree.rs, compiled unchanged from where they lie, and calls on them for the comparison with docs/RULES.md. What the files
 //! import is stood for by the shim crates and by the modules here. Without the files
 //! (`no_goko`) the crate is empty but for `PRESENT`.
 
@@ -25,7 +25,8 @@ pub use self::present::*;
 #[cfg(not(no_goko))]
 mod present {
     pub use crate::calls::{
-        lend_tables, stats, trace, train, train_with_length, Goko, NodeEvidence, Prior, ProbVector, Trace,
+        layer, lend_tables, stats, trace, train, train_with_length, Goko, NodeEvidence, Prior, ProbVector,
+        Trace,
     };
     pub use crate::caught::Panic;
     pub use crate::covertree::{CoverTreeReader, PointCloud};

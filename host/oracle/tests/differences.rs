@@ -1,10 +1,13 @@
 //! The smallest inputs of docs/DIFFERENCES.md, run on goko itself, under the headings there.
 #![cfg(not(no_goko))]
 
-use oracle::{lend_tables, stats, train, train_with_length, Goko, NodeAddress, Panic, Prior};
+use oracle::{layer, lend_tables, stats, train, train_with_length, Goko, NodeAddress, Panic, Prior};
 
 const NODE: NodeAddress = (0, 0);
 const CHILD: NodeAddress = (-1, 0);
+
+/// The floor that no scale is below.
+const NO_FLOOR: i32 = i32::MIN;
 
 fn prior(address: NodeAddress, singleton_count: u32, children: &[(NodeAddress, u32)]) -> Prior {
     Prior { address, singleton_count, children: children.to_vec() }
@@ -14,7 +17,7 @@ fn prior(address: NodeAddress, singleton_count: u32, children: &[(NodeAddress, u
 fn after(prior: Prior, last: usize, path: &[NodeAddress]) -> Goko {
     lend_tables(&vec![0.0; last + 1], &vec![0.0; last + 1]);
     let mut goko = Goko::open(0);
-    goko.lend_priors(&[prior]);
+    goko.lend_priors(&[prior], NO_FLOOR);
     goko.add_path(path).unwrap();
     goko
 }
@@ -50,8 +53,8 @@ fn panics_where_document_01_refuses() {
     let sequence = [vec![vec![NODE]]];
     lend_tables(&[0.0; 4], &[0.0; 4]);
     let priors = [prior(NODE, 1, &[])];
-    assert!(matches!(train(&priors, &sequence, 0), Err(Panic::Other(_))), "16: rate 0");
-    assert!(matches!(train(&priors, &[], 1), Err(Panic::Other(_))), "16: no sequences");
+    assert!(matches!(train(&priors, NO_FLOOR, &sequence, 0), Err(Panic::Other(_))), "16: rate 0");
+    assert!(matches!(train(&priors, NO_FLOOR, &[], 1), Err(Panic::Other(_))), "16: no sequences");
     assert!(
         matches!(stats(1, &[1], &[1.0; 10], 2), Err(Panic::Other(_))),
         "18: one knot and a length past it"
@@ -64,11 +67,11 @@ fn no_limit_where_document_01_has_one() {
     let mut goko = Goko::open(0);
     assert_eq!(goko.add_path(&[NODE; 65]), Ok(()), "10: 65 steps");
     assert_eq!(goko.evidence()[0].children, [(NODE, 64.0)]);
-    assert_eq!(train(&[], &[vec![]], 0), Ok((vec![], vec![])), "16: rate 0 without paths");
+    assert_eq!(train(&[], NO_FLOOR, &[vec![]], 0), Ok((vec![], vec![])), "16: rate 0 without paths");
     let many = vec![vec![vec![NODE]; 1_025]];
-    assert_eq!(train(&[], &many, 1).map(|(knots, _)| knots.len()), Ok(1_025), "16: knots");
+    assert_eq!(train(&[], NO_FLOOR, &many, 1).map(|(knots, _)| knots.len()), Ok(1_025), "16: knots");
     assert_eq!(
-        train(&[], &vec![vec![vec![NODE]]; 65], 1).map(|(knots, _)| knots.len()),
+        train(&[], NO_FLOOR, &vec![vec![vec![NODE]]; 65], 1).map(|(knots, _)| knots.len()),
         Ok(1),
         "16: sequences"
     );
@@ -79,7 +82,7 @@ fn no_limit_where_document_01_has_one() {
 fn a_sequence_length_of_zero_takes_all_points() {
     lend_tables(&[0.0; 4], &[0.0; 4]);
     let points = [vec![NODE], vec![NODE]];
-    let (knots, _) = train_with_length(&[prior(NODE, 1, &[])], &points, 1, 0, 1).unwrap();
+    let (knots, _) = train_with_length(&[prior(NODE, 1, &[])], NO_FLOOR, &points, (1, 0), 1).unwrap();
     assert_eq!(knots, [1, 2]);
 }
 
@@ -87,7 +90,7 @@ fn a_sequence_length_of_zero_takes_all_points() {
 fn each_sequence_of_a_training_has_its_own_paths() {
     lend_tables(&[0.0, 1.0, 4.0, 9.0, 16.0], &[0.0, 4.0, 8.0, 12.0, 16.0]);
     let priors = [prior(NODE, 1, &[(CHILD, 2)])];
-    let (_, values) = train(&priors, &[vec![vec![NODE]], vec![vec![NODE, CHILD]]], 1).unwrap();
+    let (_, values) = train(&priors, NO_FLOOR, &[vec![vec![NODE]], vec![vec![NODE, CHILD]]], 1).unwrap();
     // T = 3, U = 4. The ending alone gives 9 - 1 - 16 + 4 + (12 - 4) = 4, the transition
     // 9 - (1 + 4) - 16 + (1 + 9) + (12 - 8) = 2.
     assert_eq!((values[0], values[1]), (4.0 + 2.0, 16.0 + 4.0));
@@ -97,7 +100,7 @@ fn each_sequence_of_a_training_has_its_own_paths() {
 fn a_prior_without_singletons_drops_the_endings_term() {
     lend_tables(&[0.0, 4.0, 1.0], &[0.0; 3]);
     let mut goko = Goko::open(0);
-    goko.lend_priors(&[prior(NODE, 0, &[(CHILD, 1)])]);
+    goko.lend_priors(&[prior(NODE, 0, &[(CHILD, 1)])], NO_FLOOR);
     goko.add_path(&[NODE]).unwrap();
     // T = 1, U = 2, and no sum gains a term: G(1) - G(2).
     assert_eq!(goko.posterior_kl_divergence(NODE), Ok(Some(Some(3.0))));
@@ -108,7 +111,7 @@ fn no_divergence_is_minus_zero() {
     let told = |singleton_count: u32, g: &[f64]| {
         lend_tables(g, &vec![0.0; g.len()]);
         let mut goko = Goko::open(0);
-        goko.lend_priors(&[prior(NODE, singleton_count, &[(CHILD, 1)])]);
+        goko.lend_priors(&[prior(NODE, singleton_count, &[(CHILD, 1)])], NO_FLOOR);
         goko.add_path(&[NODE]).unwrap();
         goko.posterior_kl_divergence(NODE).unwrap().unwrap().unwrap().to_bits()
     };
@@ -122,7 +125,7 @@ fn no_divergence_is_minus_zero() {
 fn prior_children_outside_the_evidence_enter_no_sum() {
     lend_tables(&[0.0, 0.1, 0.2, 0.7], &[0.0; 4]);
     let mut goko = Goko::open(0);
-    goko.lend_priors(&[prior(NODE, 1, &[(CHILD, 1)])]);
+    goko.lend_priors(&[prior(NODE, 1, &[(CHILD, 1)])], NO_FLOOR);
     goko.add_path(&[NODE]).unwrap();
     let result = goko.posterior_kl_divergence(NODE).unwrap().unwrap().unwrap();
     assert_eq!(result.to_bits(), 0, "below 0 it becomes 0");
@@ -137,7 +140,7 @@ fn prior_children_outside_the_evidence_enter_no_sum() {
 #[test]
 fn an_empty_record_makes_squares_infinite() {
     lend_tables(&[0.0; 4], &[0.0; 4]);
-    let (_, values) = train(&[prior(NODE, 1, &[])], &[vec![vec![NODE]]], 1).unwrap();
+    let (_, values) = train(&[prior(NODE, 1, &[])], NO_FLOOR, &[vec![vec![NODE]]], 1).unwrap();
     assert_eq!(values[..4], [f64::MIN, f64::INFINITY, f64::MAX, f64::INFINITY]);
     assert!(values[4..].iter().all(|value| value.to_bits() == 0));
 }
@@ -149,4 +152,34 @@ fn skipped_nodes_are_counted_by_the_printed_lines() {
     assert_eq!((list.len(), skipped), (1, 1));
     let (stats, skipped) = goko.kl_div_stats().unwrap();
     assert_eq!((stats.sequence_len, skipped), (1, 1));
+}
+
+#[test]
+fn scales_below_the_floor_share_a_layer() {
+    let layers = [i32::MIN, -2, -1, 0, 1].map(|scale| layer(0, scale));
+    assert_eq!(layers, [0, 0, 0, 1, 2]);
+}
+
+#[test]
+fn below_the_floor_the_point_alone_finds_the_prior() {
+    lend_tables(&[0.0, 1.0, 4.0, 9.0, 16.0], &[0.0, 4.0, 8.0, 12.0, 16.0]);
+    let (record, low, high): (NodeAddress, NodeAddress, NodeAddress) = ((-3, 7), (-2, 7), (-1, 7));
+    let mut goko = Goko::open(0);
+    let priors = [prior(record, 1, &[(high, 1)])];
+    goko.lend_priors(&priors, 0);
+    goko.add_path(&[low, high]).unwrap();
+    // T = 2, U = 3. The transition alone gives 4 - (1 + 1) - 9 + (1 + 4) + (8 - 4), the ending
+    // 4 - 1 - 9 + 4 + (8 - 4).
+    assert_eq!(goko.all_node_kl(), Ok((vec![(2.0, low), (2.0, high)], 0)), "two nodes with one prior");
+    goko.lend_priors(&priors, -2);
+    assert_eq!(goko.all_node_kl(), Ok((vec![], 2)), "the floor's own scale is not below it");
+}
+
+#[test]
+fn a_layers_index_past_32_bits_wraps() {
+    // 2,147,483,647 - 0 + 1 wraps to -2,147,483,648: no tree has a layer of that index.
+    assert_eq!(layer(0, i32::MAX), i32::MIN as usize);
+    assert_eq!(layer(1, i32::MAX), i32::MAX as usize);
+    // From the least floor on, the greatest scale comes back to the layer below the floor.
+    assert_eq!(layer(i32::MIN, i32::MAX), 0);
 }

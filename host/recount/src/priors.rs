@@ -62,6 +62,11 @@ impl Priors {
         };
         self.nodes.iter().find(|prior| fits(prior.address))
     }
+
+    /// Whether the node has a prior whose record has another address.
+    pub fn found_by_point(&self, address: Address) -> bool {
+        self.node(address).is_some_and(|prior| prior.address != address)
+    }
 }
 
 /// A record of either kind: address, count, link.

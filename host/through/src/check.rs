@@ -10,7 +10,7 @@ use compare::goko::{self, Beside};
 use compare::{Compared, Tally};
 use recount::{
     all_node_kl, check_priors, check_tables, evidence_prob_vector, kl_div_stats, memory,
-    posterior_kl_divergence, prob_vector, same_figures, Address, Memory,
+    posterior_kl_divergence, prob_vector, same_figures, Address,
 };
 use std::fmt::Debug;
 
@@ -86,6 +86,7 @@ fn one_call(
     let answer = play(archive, call, fill)?;
     let recounted = history.play(call);
     tally.answer(&recounted);
+    tally.floors.reading(call, &recounted, &history.side, &history.priors);
     must(recounted.same(&answer), || differ("answer", &recounted, &answer))?;
     if let Answer::Changed(Ok(())) = answer {
         let side = &history.side;
@@ -114,6 +115,7 @@ pub fn altered(
         let answer = play(archive, &call, 0)?;
         let recounted = read_altered(add, &call, tables, priors);
         tally.answer(&recounted);
+        tally.floors.reading(&call, &recounted, &add.memory(), priors);
         must(recounted.same(&answer), || {
             format!("{:?} on {:?}\n{}", call, add, differ("answer", &recounted, &answer))
         })?;
@@ -153,7 +155,7 @@ fn readings_of(add: &AlteredAdd, output: &Places) -> Vec<Call> {
 
 /// The recount's answer to a reading of altered memory.
 fn read_altered(add: &AlteredAdd, call: &Call, tables: &Tables, priors: &PriorBytes) -> Answer {
-    let lent = Memory { state: add.state, book: &add.book, queue: &add.queue };
+    let lent = add.memory();
     let (tables, priors) = (tables.lent(), priors.lent());
     match call {
         Call::ProbVector { node, output } => {
@@ -182,6 +184,7 @@ pub fn training(archive: &mut Archive, training: &Training, tally: &mut Tally) -
     let mut ours = training.clone();
     let recounted = ours.run();
     tally.result(&recounted);
+    tally.floors.training(training, recounted);
     must(recounted == answer, || format!("{:#?}\n{}", training, differ("answer", recounted, answer)))?;
     let same = ours.book == left.book && ours.knots == left.knots && same_figures(&ours.values, &left.values);
     must(same, || format!("{:#?}\n{}", training, differ("book, knots and values", &ours, &left)))?;

@@ -1,6 +1,7 @@
 //! Every short list, the recorded sample, and cases at the limits: tables of 1, 2, 1,048,576 and
-//! 1,048,577 entries and a U at the last index, priors of the most records and one more, chains of
-//! 63 to 65, books and queues at their largest sizes, long windows, 1,024 knots and one more.
+//! 1,048,577 entries and a U at the last index, priors of the most records and one more, as many in
+//! scales of their own below a floor, chains of 63 to 65, books and queues at their largest sizes,
+//! long windows, 1,024 knots and one more.
 
 use crate::calls::Archive;
 use crate::check;
@@ -26,8 +27,10 @@ pub fn all(archive: &mut Archive, tally: &mut Tally) -> Compared {
     sample::table_cases().iter().try_for_each(|tables| check::tables(archive, tables, tally))?;
     sample::priors_cases().iter().try_for_each(|case| check::priors(archive, &case.priors, tally))?;
     exhaustive::each_short_list(|list| check::list(archive, list, tally))?;
+    exhaustive::under_floors().iter().try_for_each(|lent| check::priors(archive, lent, tally))?;
     table_lengths(archive, tally)?;
     prior_sizes(archive, tally)?;
+    scales_below_a_floor(archive, tally)?;
     knots(archive, tally)?;
     [1_023, 1_024].iter().try_for_each(|window| {
         check::list(archive, &call_list(&mut Rng::new(u64::from(*window)), &Shape::long(*window)), tally)
@@ -87,6 +90,33 @@ fn prior_sizes(archive: &mut Archive, tally: &mut Tally) -> Compared {
         check::priors(archive, &lent, tally)?;
     }
     [63, 64, 65].iter().try_for_each(|length| check::priors(archive, &priors::long_chain(*length), tally))
+}
+
+/// The most node records, each in a scale of its own below the floor. The last may have the first
+/// one's point, or lie at the floor with it.
+fn scales_below_a_floor(archive: &mut Archive, tally: &mut Tally) -> Compared {
+    let last = MAX_NODES as i32 - 1;
+    for (last_point, floor) in [(last as u32, last + 1), (0, last + 1), (0, last)] {
+        let point = |scale: i32| if scale == last { last_point } else { scale as u32 };
+        let node = |scale: i32| record_bytes(Address::new(scale, point(scale)), 1 + scale as u32 % 3, 0);
+        let priors =
+            PriorBytes { nodes: (0..=last).flat_map(node).collect(), floor, ..PriorBytes::default() };
+        check::priors(archive, &priors, tally)?;
+        let asked = [(-1, 0), (last, 0), (last + 1, 0), (-9, last_point), (0, 2_047), (last - 1, 4_096)];
+        let asked = asked.map(|(scale, point)| Address::new(scale, point));
+        let output = Places { addresses: vec![0x11; 48], figures: vec![-1.0; 6] };
+        let mut calls = vec![
+            Call::Open { window: 0, book_len: 6 * ENTRY_BYTES, queue_len: 0 },
+            Call::LendTables(tables::gamma(9)),
+            Call::LendPriors(priors),
+        ];
+        calls.extend(asked.map(|node| Call::Add { path: path_bytes(&[node]) }));
+        calls.extend(asked.map(|node| Call::ProbVector { node, output: output.clone() }));
+        calls.extend(asked.map(|node| Call::PosteriorKlDivergence { node }));
+        calls.extend([Call::AllNodeKl { output }, Call::KlDivStats]);
+        check::list(archive, &CallList { fill: 0, calls }, tally)?;
+    }
+    Ok(())
 }
 
 /// As many knots as there may be, and one more.

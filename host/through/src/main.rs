@@ -67,7 +67,7 @@ fn main() -> ExitCode {
                 tally.lists, tally.altered, calls
             );
             println!("results by refusal number, 0 for an answer: {:?}", tally.numbers);
-            tally.print_goko();
+            tally.print_rest();
             println!("the comparison at scale took {} s", started.elapsed().as_secs());
             ExitCode::SUCCESS
         }
@@ -105,6 +105,7 @@ fn everything(given: &Arguments) -> Result<(Tally, u64), String> {
         tally.join(&counted);
         calls += made;
     }
+    tally.met_floors()?;
     Ok((tally, calls))
 }
 
@@ -135,16 +136,15 @@ fn one_of_each(archive: &mut Archive, rng: &mut Rng, tally: &mut Tally) -> Compa
     check::list(archive, &call_list(rng, &Shape::small()), tally)?;
     altered(archive, rng, tally)?;
     if rng.chance(25) {
-        check::training(archive, &baselines::training(rng, 4, 12), tally)?;
+        let floor = paths::floor(rng, 33);
+        check::training(archive, &baselines::training(rng, (4, 12), floor), tally)?;
     }
     if rng.chance(25) {
         check::stats(archive, &baselines::stats_asked(rng, 6), tally)?;
     }
     let last = rng.between(1, 40);
     check::tables(archive, &tables::damaged(rng, last), tally)?;
-    let count = rng.between(1, 5);
-    let universe = paths::universe(rng, count);
-    check::priors(archive, &priors::damaged(rng, &universe), tally)
+    check::priors(archive, &priors::refusable(rng), tally)
 }
 
 /// Altered memory with priors over the addresses that its book begins with.
@@ -161,6 +161,8 @@ fn altered(archive: &mut Archive, rng: &mut Rng, tally: &mut Tally) -> Compared 
         1 => priors::fewer_nodes(rng, &known, 3),
         _ => priors::whole(rng, &known, 3),
     };
+    let floor = paths::floor(rng, 33);
+    let lent = priors::floored(rng, lent, floor);
     let last = rng.pick(&[10, 40, 80]);
     let tables: Tables = tables::good(rng, last);
     let count = rng.between(0, 8);
