@@ -38,11 +38,12 @@
  * Every content of the memory is allowed. What breaks a rule is refused by its number, or read as docs/RULES.md says of memory
  * altered by others, and never out of bounds.
  *
- * Stack. No plain function takes more than TEAKPOOL_STACK bytes, beside what memset takes. examples/c/test.sh measures this in the
- * archive's machine code, prints it for each function and fails past TEAKPOOL_STACK. It counts, along the deepest chain of calls,
- * every push and every `sub` on the stack pointer of each function, the return addresses, and the 128 bytes below the stack pointer
- * that the last function of the chain may use without moving it. There is no recursion and no call through a pointer. The calls over
- * structs add the frame that the compiler gives them, teakpool_try_path the largest.
+ * Stack. No plain function takes more than TEAKPOOL_STACK bytes, beside what memset takes, and none that is lent no priors more than
+ * TEAKPOOL_STACK_WITHOUT_PRIORS: 22 is tested with 16,384 bytes, which the calls that are lent priors take with a floor and without.
+ * examples/c/test.sh measures this in the archive's machine code, prints it for each function and fails past these two. It counts,
+ * along the deepest chain of calls, every push and every `sub` on the stack pointer of each function, the return addresses, and the
+ * 128 bytes below the stack pointer that the last function of the chain may use without moving it. There is no recursion and no call
+ * through a pointer. The calls over structs add the frame that the compiler gives them, teakpool_try_path the largest.
  *
  * Byte forms. Fields are 32 bits, little-endian. An address is a scale (i32) and a point (u32), 8 bytes; addresses ascend by scale
  * as a signed number, then by point.
@@ -63,7 +64,7 @@
  * have one point share a prior, each with its own evidence and its own place in an answer; 14 and 15 name the listed node. Children
  * in a chain and entries of a book go by exact address, whatever the floor is. INT32_MIN is no floor: every look-up is exact.
  * goko puts all scales under its tree's `min_res_index` into one layer, where the point alone finds a node. So whoever has a goko
- * tree lends its min_res_index as the floor; otherwise nodes are skipped that goko finds.
+ * tree lends its min_res_index as the floor; otherwise nodes may be skipped that goko finds.
  *
  * Figures. They are the same where their 64 bits are, and any NaN is the same as any NaN: plus zero and minus zero are two figures.
  * No reading tells minus zero: not as a divergence, nor as a probability, nor in the statistics. Divergences and probabilities are not
@@ -117,8 +118,9 @@ extern "C" {
 #define TEAKPOOL_DONE 0u
 #define TEAKPOOL_NONE 100u
 
-/* Bytes of stack that no call passes. */
-#define TEAKPOOL_STACK 1024u
+/* Bytes of stack that no call passes, and that none passes which is lent no priors. */
+#define TEAKPOOL_STACK 17408u
+#define TEAKPOOL_STACK_WITHOUT_PRIORS 1024u
 
 #define TEAKPOOL_MAX_WINDOW 1024u
 #define TEAKPOOL_MAX_PATHS_ACCEPTED 16777216u

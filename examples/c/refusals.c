@@ -626,7 +626,7 @@ int main(void)
     baselines();
     for (uint32_t number = TEAKPOOL_TABLE_LENGTHS; number <= TEAKPOOL_SHARED_POINT; number++) {
         if (met[number] != (number <= TEAKPOOL_ONE_KNOT || number == TEAKPOOL_SHARED_POINT)) {
-            printf("not as expected: %u is %s returned\n", number, met[number] ? "" : "never");
+            printf("not as expected: %u is %sreturned\n", number, met[number] ? "" : "never ");
             failures++;
         }
     }

@@ -18,12 +18,12 @@ done
 echo "versions: $version in header, archive, change log, pkg-config file, crate and ./run"
 
 # Every number that the header defines is the one in the sources, where two of them have shorter names; test_stack.sh
-# measures TEAKPOOL_STACK, and the structs program meets TEAKPOOL_PATH_ENTRIES. The refusals have the names and numbers of the Rust crate, which holds
+# measures those of the stack, and the structs program meets TEAKPOOL_PATH_ENTRIES. The refusals have the names and numbers of the Rust crate, which holds
 # them against docs/RULES.md.
 constants_hold() { # HEADER
     local name value source lines=0
     sed -n 's/^#define TEAKPOOL_\([A-Z_]*\) \([0-9]*\)u$/\1 \2/p' "$1" |
-        grep -v -e '^VERSION_' -e '^STACK ' -e '^PATH_ENTRIES ' >"$work/defined"
+        grep -v -e '^VERSION_' -e '^STACK' -e '^PATH_ENTRIES ' >"$work/defined"
     while read -r name value; do
         case $name in
         DONE) source=0 ;;

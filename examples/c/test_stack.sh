@@ -9,15 +9,25 @@ work=$(mktemp -d)
 trap 'rm -rf "$work"' EXIT
 
 nm "$archive" | sed -n 's/^.* T \(teakpool_.*\)$/\1/p' | sort >"$work/exported"
-stack_holds() { # HEADER MEASURED
+# The functions that are lent priors, which come with a floor.
+lent_priors() { # HEADER
+    sed -n '/^uint32_t teakpool_[a-z_]*(/,/;$/p' "$1" | tr -d '\n' | tr ';' '\n' |
+        sed -n 's/^uint32_t \(teakpool_[a-z_]*\)(.*int32_t floor.*$/\1/p'
+}
+within() { # NAME HEADER MEASURED
     local stated taken
-    stated=$(sed -n 's/^#define TEAKPOOL_STACK \([0-9]*\)u$/\1/p' "$1")
-    taken=$(sort -n "$2" | sed -n '$s/^\([0-9]*\) .*$/\1/p')
-    [[ $stated =~ ^[0-9]+$ ]] || { echo "stack: the header states no number" && return 1; }
+    stated=$(sed -n "s/^#define TEAKPOOL_$1 \\([0-9]*\\)u\$/\\1/p" "$2")
+    taken=$(sort -n "$3" | sed -n '$s/^\([0-9]*\) .*$/\1/p')
+    [[ $stated =~ ^[0-9]+$ ]] || { echo "stack: the header states no number for TEAKPOOL_$1" && return 1; }
     [[ $taken =~ ^[0-9]+$ ]] || { echo "stack: no number was measured" && return 1; }
+    [ "$taken" -le "$stated" ] || { echo "stack: a call can take $taken bytes, and TEAKPOOL_$1 is $stated" && return 1; }
+}
+stack_holds() { # HEADER MEASURED
     sed -n 's/^[0-9][0-9]* \(teakpool_[a-z_]*\)$/\1/p' "$2" | sort | diff "$work/exported" - ||
         { echo "stack: not every function was measured" && return 1; }
-    [ "$taken" -le "$stated" ] || { echo "stack: a call can take $taken bytes, and the header states $stated" && return 1; }
+    lent_priors "$1" >"$work/lent"
+    grep -vwFf "$work/lent" "$2" >"$work/without"
+    within STACK "$1" "$2" && within STACK_WITHOUT_PRIORS "$1" "$work/without"
 }
 objdump -dr --no-show-raw-insn "$archive" >"$work/code"
 awk -f examples/c/stack.awk "$work/code" >"$work/stack"
@@ -29,11 +39,12 @@ not_noticed() { # WHAT
     exit 1
 }
 for change in '/ teakpool_stats$/d' 's/^[0-9]* teakpool_stats$/ teakpool_stats/' 's/^[0-9]* //' \
-    's/^[0-9]* teakpool_train$/1025 teakpool_train/' d; do
+    's/^[0-9]* teakpool_train$/17409 teakpool_train/' 's/^[0-9]* teakpool_add_path$/1025 teakpool_add_path/' d; do
     sed "$change" "$work/stack" >"$work/changed"
     ! stack_holds include/teakpool.h "$work/changed" >"$work/told" || not_noticed "'$change' in what is measured"
 done
-for change in '/define TEAKPOOL_STACK/d' 's/STACK 1024u/STACK 900u/' 's/STACK 1024u/STACK u/'; do
+for change in '/define TEAKPOOL_STACK /d' 's/STACK 17408u/STACK 17000u/' 's/STACK 17408u/STACK u/' '/STACK_WITHOUT_PRIORS 1024u/d' \
+    's/PRIORS 1024u/PRIORS 400u/' 's/int32_t floor/int32_t lowest/'; do
     sed "$change" include/teakpool.h >"$work/changed"
     ! stack_holds "$work/changed" "$work/stack" >"$work/told" || not_noticed "'$change' in the header"
 done

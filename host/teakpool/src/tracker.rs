@@ -384,8 +384,8 @@ impl<'m> Tracker<'m> {
 /// Entries that a path of 64 steps needs: its nodes and its transitions.
 const PATH_ENTRIES: usize = 2 * MAX_STEPS - 1;
 
-/// Tries a path by itself, before it is added to a tracker. It takes about 3 KB of stack for a book
-/// of its own.
+/// Tries a path by itself, before it is added to a tracker. It takes about 20 KB of stack: 3 for a
+/// book of its own, and 17 that every call takes which is lent priors.
 ///
 /// # Errors
 /// What `kl_div_stats` would give for a tracker that has this path and no other: 14 with a node of

@@ -35,7 +35,7 @@ impl Ways {
     fn of(day: &Day) -> Ways {
         let mut ways = Ways::default();
         for steps in day.sequences.iter().flat_map(|sequence| sequence.iter()) {
-            for (step, node) in steps.iter().enumerate().filter(|(_, node)| day.priors.contains_key(node)) {
+            for (step, node) in steps.iter().enumerate().filter(|(_, node)| day.priors.of(**node).is_some()) {
                 *ways.visits.entry(*node).or_default() += 1;
                 *ways.taken.entry((*node, steps.get(step + 1).copied())).or_default() += 1;
             }
@@ -61,7 +61,7 @@ impl ByNode {
                 let Ok(place) = places.binary_search(&knot) else {
                     return Ok(());
                 };
-                for (node, divergence) in divergences(tracker, lent, trained.greatest_index, day)?.0 {
+                for (node, divergence) in divergences(tracker, lent, trained.greatest_index)?.0 {
                     let sums = nodes.entry(node).or_insert_with(|| vec![[0.0; 2]; places.len()]);
                     sums[place][0] += divergence;
                     sums[place][1] += divergence * divergence;

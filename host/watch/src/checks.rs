@@ -1,22 +1,48 @@
 //! What shows only when all lines of a day are read: tables of one length, priors that leave room
-//! in them, a rate and a capacity that fit the paths, and a training that its priors allow.
+//! in them, one prior a point below the floor, a rate and a capacity that fit the paths, and a
+//! training that its priors allow.
 
 use crate::counts::Counts;
 use crate::day::{Day, Paths, Prior, Setting, TableRule, MAX_KNOTS};
 use crate::known::Known;
 use crate::mistakes::Mistakes;
-use std::collections::HashSet;
+use std::collections::{HashMap, HashSet};
 use teakpool::Address;
 
 /// Tests that the lines of a day fit together; `tables_read` is false where a line of the tables
 /// is wrong already.
 pub fn together(day: &Day, tables_read: bool, mistakes: &mut Mistakes) {
-    if tables_read && whole_tables(day, mistakes) {
+    let whole_tables = tables_read && whole_tables(day, mistakes);
+    few_knots(day, mistakes);
+    // Without it nobody can say which prior a node has.
+    if !one_prior_a_point(day, mistakes) {
+        return;
+    }
+    if whole_tables {
         room_in_tables(day, mistakes);
     }
-    few_knots(day, mistakes);
     enough_capacity(day, mistakes);
     known_training(day, mistakes);
+}
+
+/// Below the floor no two priors have one point. Of two that do the line further down is told.
+fn one_prior_a_point(day: &Day, mistakes: &mut Mistakes) -> bool {
+    let mut below: Vec<(&Address, &Prior)> = day.priors.below().collect();
+    below.sort_by_key(|(_, prior)| prior.line);
+    let mut by_point: HashMap<u32, (&Address, &Prior)> = HashMap::new();
+    let mut apart = true;
+    for (node, prior) in below {
+        let (before, earlier) = *by_point.entry(node.point).or_insert((node, prior));
+        if let Some(floor) = day.priors.floor().filter(|_| before != node) {
+            let text = format!(
+                "{}, in line {}, has this point and is below the floor, {}, too",
+                before, earlier.line, floor
+            );
+            mistakes.add(prior.line, text);
+            apart = false;
+        }
+    }
+    apart
 }
 
 /// Given tables have equally many numbers, at least those of index 0 and 1.
@@ -47,7 +73,8 @@ fn room_in_tables(day: &Day, mistakes: &mut Mistakes) {
     if too_great.is_empty() {
         return;
     }
-    let visited: HashSet<&Address> = each_history(day).flat_map(Paths::iter).flatten().collect();
+    let steps = each_history(day).flat_map(Paths::iter).flatten();
+    let visited: HashSet<Address> = steps.filter_map(|step| day.priors.line_node(*step)).collect();
     for (_, prior) in too_great.iter().filter(|(node, _)| visited.contains(node)) {
         mistakes.add(prior.line, no_room(prior, last_index));
     }
@@ -124,8 +151,8 @@ fn added(day: &Day) -> impl Iterator<Item = &[Address]> {
 fn known_training(day: &Day, mistakes: &mut Mistakes) {
     for sequence in &day.sequences {
         for (index, steps) in sequence.iter().enumerate() {
-            let missing = |pair: &&[_]| {
-                day.priors.get(&pair[0]).is_some_and(|prior| !prior.children.contains_key(&pair[1]))
+            let missing = |pair: &&[Address]| {
+                day.priors.of(pair[0]).is_some_and(|prior| !prior.children.contains_key(&pair[1]))
             };
             if let Some(pair) = steps.windows(2).find(missing) {
                 let text = format!(

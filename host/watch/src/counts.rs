@@ -4,20 +4,32 @@
 //! and which path would pass the tables' end.
 
 use crate::day::{Day, Paths};
+use crate::lookup::Priors;
 use std::collections::{HashMap, VecDeque};
 use teakpool::Address;
 
-/// A node with a prior: the prior's total, and its visits in the window.
+/// A node with a prior: the prior's total, and its visits in the window. Two nodes can have one
+/// prior, and each has its own visits.
+#[derive(Clone, Copy)]
 struct Node {
     prior: u64,
     visits: u64,
 }
 
+impl Node {
+    /// A node that is not visited, if it has a prior.
+    fn of(priors: &Priors, address: Address) -> Option<Node> {
+        priors.of(address).map(|prior| Node { prior: prior.total(), visits: 0 })
+    }
+}
+
 /// The counts, with the paths that are in the window.
 pub struct Counts<'a> {
+    priors: &'a Priors,
     paths: &'a Paths,
     window: usize,
-    nodes: HashMap<Address, Node>,
+    /// The nodes that were met; none for one without a prior.
+    nodes: HashMap<Address, Option<Node>>,
     greatest_prior: u64,
     /// Indexes of the paths in the window; none are kept where all paths count.
     held: VecDeque<usize>,
@@ -27,13 +39,11 @@ pub struct Counts<'a> {
 
 impl<'a> Counts<'a> {
     /// Nothing is counted yet; a window of 0 keeps all.
-    pub fn new(day: &Day, paths: &'a Paths, window: u32) -> Counts<'a> {
-        let node = |prior| Node { prior, visits: 0 };
-        let nodes: HashMap<Address, Node> =
-            day.priors.iter().map(|(address, prior)| (*address, node(prior.total()))).collect();
-        let greatest_prior = nodes.values().map(|node| node.prior).max().unwrap_or(0);
+    pub fn new(day: &'a Day, paths: &'a Paths, window: u32) -> Counts<'a> {
+        let (priors, nodes) = (&day.priors, HashMap::new());
+        let greatest_prior = priors.iter().map(|(_, prior)| prior.total()).max().unwrap_or(0);
         let (window, held) = (window as usize, VecDeque::new());
-        Counts { paths, window, nodes, greatest_prior, held, visits: 0, greatest: 1 }
+        Counts { priors, paths, window, nodes, greatest_prior, held, visits: 0, greatest: 1 }
     }
 
     /// The path that leaves the window when one is added.
@@ -51,7 +61,8 @@ impl<'a> Counts<'a> {
         let leaving = self.leaving();
         let times = |steps: &[Address], node: &Address| steps.iter().filter(|step| *step == node).count();
         let passes = |address: &&Address| {
-            self.nodes.get(address).is_some_and(|node| {
+            let met = self.nodes.get(address).copied();
+            met.unwrap_or_else(|| Node::of(self.priors, **address)).is_some_and(|node| {
                 let after = node.prior + node.visits + times(steps, address) as u64;
                 after - times(leaving, address) as u64 > last_index
             })
@@ -61,20 +72,20 @@ impl<'a> Counts<'a> {
 
     /// Counts a path, and takes the one that leaves the window away.
     pub fn add(&mut self, index: usize) {
-        let (steps, leaving) = (self.paths.steps(index), self.leaving());
+        let (priors, steps, leaving) = (self.priors, self.paths.steps(index), self.leaving());
         for step in steps {
-            if let Some(node) = self.nodes.get_mut(step) {
+            if let Some(node) = self.nodes.entry(*step).or_insert_with(|| Node::of(priors, *step)) {
                 node.visits += 1;
                 self.visits += 1;
             }
         }
         for step in leaving {
-            if let Some(node) = self.nodes.get_mut(step) {
+            if let Some(Some(node)) = self.nodes.get_mut(step) {
                 node.visits -= 1;
                 self.visits -= 1;
             }
         }
-        let together = steps.iter().filter_map(|step| self.nodes.get(step));
+        let together = steps.iter().filter_map(|step| self.nodes.get(step).copied().flatten());
         let most = together.map(|node| node.prior + node.visits).max().unwrap_or(0);
         self.greatest = self.greatest.max(most);
         if self.window > 0 {
@@ -120,6 +131,20 @@ mod tests {
         assert_eq!(greatest(0), [(2, 7), (4, 9), (5, 9), (6, 10)]);
         assert_eq!(greatest(1), [(2, 7), (2, 8), (1, 8), (1, 8)]);
         assert_eq!(greatest(2), [(2, 7), (4, 9), (3, 9), (2, 9)]);
+    }
+
+    #[test]
+    fn nodes_that_share_a_prior_have_their_own_visits() {
+        let text = "prior -5/7 6\nfloor -3\nday\npath -4/7 -5/7\npath -4/7\npath -3/7\n";
+        let day = read(text.as_bytes()).expect("the lines can be taken");
+        let mut counts = Counts::new(&day, &day.paths, 0);
+        assert_eq!((counts.past_end(0, 6), counts.past_end(0, 7)), (Some(Address::new(-5, 7)), None));
+        counts.add(0);
+        assert_eq!((counts.visits(), counts.greatest()), (2, 7));
+        assert_eq!((counts.past_end(1, 7), counts.past_end(2, 7)), (Some(Address::new(-4, 7)), None));
+        counts.add(1);
+        counts.add(2);
+        assert_eq!((counts.visits(), counts.greatest()), (3, 8));
     }
 
     #[test]

@@ -1,5 +1,6 @@
 //! A recorded day: its settings, priors, names, training sequences, paths and marks.
 
+use crate::lookup::Priors;
 use std::collections::BTreeMap;
 use teakpool::Address;
 
@@ -116,7 +117,7 @@ pub struct Day {
     pub rate: Option<Setting<u32>>,
     pub capacity: Option<Setting<usize>>,
     pub tables: TableRule,
-    pub priors: BTreeMap<Address, Prior>,
+    pub priors: Priors,
     pub names: BTreeMap<Address, String>,
     pub sequences: Vec<Paths>,
     pub paths: Paths,
@@ -133,7 +134,7 @@ impl Default for Day {
             rate: None,
             capacity: None,
             tables: TableRule::Gamma,
-            priors: BTreeMap::new(),
+            priors: Priors::default(),
             names: BTreeMap::new(),
             sequences: Vec::new(),
             paths: Paths::default(),

@@ -26,7 +26,12 @@ fn paths(day: &Day) -> String {
         0 => "all of them count".to_string(),
         window => format!("the last {} count", window),
     };
-    format!("paths: {}, {}; nodes with a prior: {}", day.paths.len(), window, day.priors.len())
+    // Below a floor more nodes can have a prior than there are priors.
+    let priors = match day.priors.floor() {
+        None => format!("nodes with a prior: {}", day.priors.len()),
+        Some(floor) => format!("priors: {}, floor {}", day.priors.len(), floor),
+    };
+    format!("paths: {}, {}; {}", day.paths.len(), window, priors)
 }
 
 /// What the baseline was trained on.

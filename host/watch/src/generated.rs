@@ -12,9 +12,9 @@ use cases::rng::Rng;
 use std::collections::BTreeMap;
 
 /// Words that begin lines, and such as nearly do.
-const FIRST: [&str; 18] = [
-    "window", "drift", "rate", "capacity", "tables", "g", "d", "prior", "name", "sequence", "day", "mark",
-    "path", "path", "path", "prior", "paths", "#",
+const FIRST: [&str; 19] = [
+    "window", "drift", "rate", "capacity", "tables", "g", "d", "floor", "prior", "name", "sequence", "day",
+    "mark", "path", "path", "path", "prior", "paths", "#",
 ];
 /// Words that stand behind them.
 const WORDS: [&str; 32] = [
@@ -52,7 +52,7 @@ const WORDS: [&str; 32] = [
     "'\"&",
 ];
 
-const NODES: [&str; 5] = ["1/7", "0/9", "0/7", "-1/3", "2/0"];
+const NODES: [&str; 6] = ["1/7", "0/9", "0/7", "-1/3", "-1/9", "2/0"];
 
 /// A path that goes by the children of the priors, or by chance.
 fn path(random: &mut Rng, children: &BTreeMap<&str, Vec<&str>>, by_chance: bool) -> String {
@@ -74,6 +74,7 @@ fn day_lines(random: &mut Rng) -> Vec<String> {
     let mut lines = vec![format!("window {}", random.pick(&[0, 1, 2, 5, 1_024]))];
     lines.push(format!("drift {}", random.pick(&["0", "0.5", "3", "1e300"])));
     lines.push(random.pick(&["tables gamma", "tables squares 60", "tables squares 30", "#"]).to_string());
+    lines.push(random.pick(&["#", "#", "floor 0", "floor 1", "floor 2"]).to_string());
     let mut priors: BTreeMap<&str, Vec<&str>> = BTreeMap::new();
     for node in NODES {
         let children: Vec<&str> = NODES.into_iter().filter(|_| random.chance(60)).collect();
@@ -182,6 +183,8 @@ fn ends(bytes: &[u8]) -> bool {
     assert!((1..=TOLD + 1).contains(&told.len()), "{:?}", told);
     assert!(told.iter().all(|line| line.starts_with("line ") || line.starts_with("and ")), "{:?}", told);
     assert!(!told.iter().any(|line| line.contains(char::is_control)), "{:?}", told);
+    // What a line shows is told before the archive refuses it.
+    assert!(!told.iter().any(|line| line.contains("refusal")), "{:?}", told);
     false
 }
 

@@ -9,7 +9,8 @@
 //!
 //! What a training path does too is added, and `seldom` looks at how often it is done.
 
-use crate::day::{Day, Prior};
+use crate::day::Day;
+use crate::lookup::Priors;
 use std::collections::BTreeMap;
 use teakpool::Address;
 
@@ -52,7 +53,7 @@ pub fn endings(odd: &BTreeMap<Odd, usize>) -> usize {
 
 /// What is known of good days.
 pub struct Known<'a> {
-    priors: &'a BTreeMap<Address, Prior>,
+    priors: &'a Priors,
     /// Training paths.
     pub paths: usize,
     /// How many of them do what the prior does not tell.
@@ -87,7 +88,7 @@ impl<'a> Known<'a> {
         let mut never_seen = Vec::new();
         for (step, pair) in steps.windows(2).enumerate() {
             let (node, child) = (pair[0], pair[1]);
-            if self.priors.get(&node).is_some_and(|prior| !prior.children.contains_key(&child)) {
+            if self.priors.of(node).is_some_and(|prior| !prior.children.contains_key(&child)) {
                 never_seen.push((step, NeverSeen::Child { node, child }));
             }
         }
@@ -104,9 +105,9 @@ impl<'a> Known<'a> {
     /// What the prior does not tell of a path.
     pub fn odd(&self, steps: &[Address]) -> Option<Odd> {
         let node = *steps.last()?;
-        match self.priors.get(&node) {
+        match self.priors.of(node) {
             Some(prior) if prior.ends == 0 => Some(Odd::Ending { node }),
-            None if !steps.iter().any(|step| self.priors.contains_key(step)) => Some(Odd::Unwatched),
+            None if !steps.iter().any(|step| self.priors.of(*step).is_some()) => Some(Odd::Unwatched),
             _ => None,
         }
     }
@@ -171,6 +172,17 @@ mod tests {
         // It has endings by its prior, or no prior.
         assert_eq!(never_seen(&["2/0 1/0"], "2/0 1/0"), []);
         assert_eq!(never_seen(&["2/0 1/0"], "2/0 1/1"), []);
+    }
+
+    #[test]
+    fn below_the_floor_the_prior_with_the_point_tells_what_was_seen() {
+        let text = "prior -5/7 0 -6/9 5\nfloor -3\nday\npath -4/7 -6/8\npath -4/7\npath -3/7 -6/8\n";
+        let day = read(text.as_bytes()).expect("a day");
+        let (node, child) = (address(-4, 7), address(-6, 8));
+        let never_seen = |path: usize| Known::of(&day).never_seen(day.paths.steps(path));
+        assert_eq!(never_seen(0), [(0, NeverSeen::Child { node, child })]);
+        assert_eq!(never_seen(1), [(0, NeverSeen::Ending { node })]);
+        assert_eq!(never_seen(2), []);
     }
 
     #[test]

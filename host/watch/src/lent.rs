@@ -23,7 +23,10 @@ impl Lent {
             TableRule::Numbers { g, d } => (g.values.clone(), d.values.clone()),
         };
         let mut records = PriorRecords::default();
-        for (node, prior) in &day.priors {
+        if let Some(floor) = day.priors.floor() {
+            records.set_floor(floor);
+        }
+        for (node, prior) in day.priors.iter() {
             let children: Vec<(Address, u32)> =
                 prior.children.iter().map(|(child, count)| (*child, *count)).collect();
             records.node(*node, prior.ends, &children);

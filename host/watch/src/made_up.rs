@@ -1,14 +1,14 @@
 //! Days made up from a seed, and what the watch says of many of them: none on which the machine
 //! has drifted may pass for calm, and none may be silent about what it could not judge.
 
-use crate::day::{Day, Prior};
+use crate::day::Day;
+use crate::lookup::Priors;
 use crate::reader::read;
 use crate::report::report;
 use crate::stretches::End;
 use crate::watched::{Judged, Tally, Verdict, Watched};
 use crate::work::watch;
 use cases::rng::Rng;
-use std::collections::BTreeMap;
 use std::fmt::Write;
 use teakpool::Address;
 
@@ -44,10 +44,10 @@ const GROSS: Plan = Plan {
 };
 
 /// A path by the example's priors; at a node a step sticks in so many of a hundred cases.
-fn path(priors: &BTreeMap<Address, Prior>, random: &mut Rng, sticks: impl Fn(Address) -> usize) -> String {
+fn path(priors: &Priors, random: &mut Rng, sticks: impl Fn(Address) -> usize) -> String {
     let mut node = Address::new(3, 0);
     let mut line = format!("path {}", node);
-    while let Some(prior) = priors.get(&node) {
+    while let Some(prior) = priors.of(node) {
         let mut left = random.below(prior.total() as usize) as u64;
         let by_prior = prior.children.iter().find(|(_, count)| {
             let here = left < u64::from(**count);

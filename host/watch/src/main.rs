@@ -16,6 +16,7 @@ mod findings;
 mod generated;
 mod known;
 mod lent;
+mod lookup;
 #[cfg(test)]
 mod made_up;
 mod mistakes;

@@ -47,9 +47,9 @@ pub fn divergences(
     tracker: &Tracker,
     lent: &Lent,
     index: u64,
-    day: &Day,
 ) -> Result<(Vec<(Address, f64)>, u32), Refusal> {
-    let room = day.priors.len();
+    // Below the floor several nodes can have one prior; each of them has an entry.
+    let room = tracker.state().used as usize;
     let (mut addresses, mut figures) = (vec![0; Address::BYTES * room], vec![0.0; room]);
     let mut output = Output { addresses: &mut addresses, figures: &mut figures };
     let list = tracker.all_node_kl(lent.tables(index), lent.priors(), &mut output)?;
@@ -65,7 +65,7 @@ pub fn shares(
     by_node: Option<&ByNode>,
     node: Address,
 ) -> Result<Vec<Share>, Refusal> {
-    let Some(prior) = day.priors.get(&node) else {
+    let Some(prior) = day.priors.of(node) else {
         return Ok(Vec::new());
     };
     let room = prior.children.len();

@@ -191,7 +191,7 @@ fn nodes(day: &Day, watched: &Watched) -> String {
         )
     };
     let nodes: String = watched.nodes.iter().map(node).collect();
-    let others = list("others", &words::other_nodes(watched));
+    let others = list("others", &words::other_nodes(day, watched));
     let key = "<p class=\"note\">Divergence, its mean in the training, and what has moved most.</p>\n";
     format!("{}<div class=\"nodes\">\n{}</div>\n{}", key, nodes, others)
 }

@@ -137,7 +137,7 @@ mod tests {
         let priors = lines(&[example]).expect("they can be written");
         let day = read(format!("{}day\npath 3/0", priors).as_bytes()).expect("they can be read");
         assert_eq!(day.priors.len(), 12);
-        let ends: u64 = day.priors.values().map(|prior| u64::from(prior.ends)).sum();
+        let ends: u64 = day.priors.iter().map(|(_, prior)| u64::from(prior.ends)).sum();
         assert_eq!(ends, 180, "every path ends somewhere");
     }
 
@@ -197,7 +197,7 @@ mod tests {
         assert_eq!(tree.len(), 5);
         let day = read(format!("{}day\npath 2/0", block()).as_bytes()).expect("the lines can be read");
         assert_eq!(day.priors.len(), 5);
-        for (node, prior) in &day.priors {
+        for (node, prior) in day.priors.iter() {
             let (ends, children) = component(&tree, *node).expect("it is in the tree");
             assert_eq!((prior.ends, &prior.children), (ends, &children), "{}", node);
         }
@@ -207,7 +207,7 @@ mod tests {
     fn the_records_of_the_page_are_those_of_its_lines() {
         let day = read(format!("{}day\npath 2/0", block()).as_bytes()).expect("the lines can be read");
         let mut records = PriorRecords::default();
-        for (node, prior) in &day.priors {
+        for (node, prior) in day.priors.iter() {
             let children: Vec<(Address, u32)> = prior.children.clone().into_iter().collect();
             records.node(*node, prior.ends, &children);
         }

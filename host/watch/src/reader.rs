@@ -137,7 +137,7 @@ impl Reader {
         let Some(word) = words.next() else {
             return Ok(());
         };
-        if ["window", "drift", "rate", "capacity", "tables", "day"].contains(&word) {
+        if ["window", "drift", "rate", "capacity", "tables", "floor", "day"].contains(&word) {
             self.once(word.to_string(), number)?;
         }
         match word {
@@ -153,6 +153,7 @@ impl Reader {
             }
             "tables" => self.tables(number, &mut words)?,
             "g" | "d" => self.numbers(number, word, &mut words)?,
+            "floor" => self.day.priors.set_floor(parse(words.next(), "the floor's scale")?),
             "prior" => self.prior(number, &mut words)?,
             "name" => self.name(number, &mut words)?,
             "sequence" => self.sequence(number)?,
@@ -232,14 +233,14 @@ impl Reader {
         if prior.total() == 0 {
             return Err("a prior needs at least one count that is not 0".to_string());
         }
-        if let Some(before) = self.day.priors.get(&node) {
+        if let Some(before) = self.day.priors.given(node) {
             return Err(format!("{} has a prior already, in line {}", node, before.line));
         }
         if self.day.priors.len() == MAX_PRIORS {
             return Err(format!("a day has at most {} priors", MAX_PRIORS));
         }
         self.prior_children += prior.children.len();
-        self.day.priors.insert(node, prior);
+        self.day.priors.add(node, prior);
         Ok(())
     }
 
@@ -488,7 +489,7 @@ mod tests {
     #[test]
     fn what_is_given_twice_is_a_mistake() {
         let twice = |line: &str| problem(with_day(&format!("{}\n\n{}", line, line)));
-        for setting in ["window 3", "drift 2", "rate 1", "capacity 9", "tables gamma"] {
+        for setting in ["window 3", "drift 2", "rate 1", "capacity 9", "tables gamma", "floor -3"] {
             let word = setting.split(' ').next().unwrap();
             assert_eq!(twice(setting), (3, format!("'{}' is given already, in line 1", word)));
         }
@@ -566,6 +567,28 @@ mod tests {
     }
 
     #[test]
+    fn a_wrong_floor_is_told_by_number() {
+        assert_eq!(problem(with_day("floor")).1, "the floor's scale is wanted, and the line ends");
+        for wrong in ["x", "1/0", "0.5", "2147483648"] {
+            let text = format!("the floor's scale is wanted, not '{}'", wrong);
+            assert_eq!(problem(with_day(&format!("\nfloor {}", wrong))), (2, text));
+        }
+        assert_eq!(problem(with_day("floor -3 -4")).1, "'-4' is more than 'floor' takes");
+    }
+
+    #[test]
+    fn two_priors_below_the_floor_with_one_point_are_told_by_number() {
+        let day =
+            |floor: i32| with_day(&format!("floor {}\nprior -5/7 1\nprior -8/7 1\nprior -6/9 1", floor));
+        assert!(read(day(-5).as_bytes()).is_ok());
+        let text = "-5/7, in line 2, has this point and is below the floor, -4, too".to_string();
+        assert_eq!(problem(day(-4)), (3, text));
+        // What would be looked up is not told of: which prior it has is not known.
+        let training = "floor 0\nprior -5/7 1 -9/1 1\nprior -8/7 1 -9/2 1\nsequence\npath -6/7 -9/3";
+        assert_eq!(problem(with_day(training)).0, 3);
+    }
+
+    #[test]
     fn too_many_priors_are_told_by_number() {
         let nodes = |count: u32| (0..count).map(|point| format!("prior 1/{} 1\n", point)).collect::<String>();
         assert!(read(with_day(&nodes(4_096)).as_bytes()).is_ok());
@@ -614,6 +637,8 @@ mod tests {
         assert_eq!(problem(format!("{}sequence\npath 0/2\nday\npath 0/1", prior)), (2, text.to_string()));
         assert!(read(format!("{}day\npath 0/1", prior).as_bytes()).is_ok());
         assert_eq!(problem("tables numbers\ng 0 0\nd 0 0\nprior 0/1 1\nday\npath 0/1").0, 4);
+        assert!(read(format!("{}day\npath -1/2", prior).as_bytes()).is_ok());
+        assert_eq!(problem(format!("{}floor 1\nday\npath -1/2", prior)).0, 2);
     }
 
     #[test]
@@ -623,6 +648,11 @@ mod tests {
         assert_eq!(problem(format!("{}day\npath 1/0", prior)), (4, text.to_string()));
         // In the day it is a finding.
         assert!(read(b"prior 1/0 1 0/1 2\nday\npath 1/0 0/2").is_ok());
+        // Below the floor a node has the prior with its point, and children their exact addresses.
+        let fine = "prior -5/0 1 -6/1 2\nsequence\npath -4/0 -6/1\npath -4/0 -7/1\nday\npath -4/0";
+        assert!(read(fine.as_bytes()).is_ok());
+        let text = "-4/0 goes on to -7/1, which its prior does not have; a training is made of good days";
+        assert_eq!(problem(format!("{}\nfloor -3", fine)), (4, text.to_string()));
     }
 
     #[test]

@@ -24,7 +24,7 @@ pub fn told(day: &Day, last_index: u64, line: usize) -> impl Fn(Refusal) -> Prob
 
 /// The prior is to blame where its counts alone leave no room for a path.
 fn past_table(day: &Day, last_index: u64, line: usize, node: Address) -> Problem {
-    match day.priors.get(&node).filter(|prior| prior.total() >= last_index) {
+    match day.priors.of(node).filter(|prior| prior.total() >= last_index) {
         Some(prior) => Problem { line: prior.line, text: no_room(prior, last_index) },
         None => {
             let text = format!(

@@ -121,7 +121,7 @@ fn nodes(text: &mut String, day: &Day, watched: &Watched) -> Written {
         let (node, share) = (words::node(day, moved.node), words::share(day, moved));
         writeln!(text, "  {:<width$} {:>10} {:>10}   {}", node, divergence, usual, share)?;
     }
-    lines(text, words::other_nodes(watched))
+    lines(text, words::other_nodes(day, watched))
 }
 
 /// The five figures of the last reading beside the baseline's means and variances.

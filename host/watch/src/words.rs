@@ -94,8 +94,8 @@ pub fn when(day: &Day, watched: &Watched) -> String {
     }
 }
 
-/// The nodes that are not shown.
-pub fn other_nodes(watched: &Watched) -> Vec<String> {
+/// The nodes that are not shown, and how nodes are found.
+pub fn other_nodes(day: &Day, watched: &Watched) -> Vec<String> {
     let mut lines = Vec::new();
     if watched.more_nodes > 0 {
         lines
@@ -105,6 +105,9 @@ pub fn other_nodes(watched: &Watched) -> Vec<String> {
         0 => {}
         1 => lines.push("1 node without a prior is not watched".to_string()),
         skipped => lines.push(format!("{} nodes without a prior are not watched", skipped)),
+    }
+    if let Some(floor) = day.priors.floor() {
+        lines.push(format!("below the floor, scale {}, a node has the prior with its point", floor));
     }
     lines
 }

@@ -181,7 +181,7 @@ impl Run<'_> {
 
     /// The node to look at.
     fn most_moved(&self) -> Result<Option<Moved>, Refusal> {
-        let (nodes, _) = moved::divergences(&self.tracker, &self.lent, self.counts.greatest(), self.day)?;
+        let (nodes, _) = moved::divergences(&self.tracker, &self.lent, self.counts.greatest())?;
         let most = match self.by_node() {
             Some(by_node) => by_node.most_moved(&nodes, self.usual.length),
             None => nodes.first().copied(),
@@ -205,7 +205,7 @@ impl Run<'_> {
     fn nodes(&mut self) -> Result<(Vec<Moved>, usize, u32), Refusal> {
         let greatest = self.counts.greatest();
         self.lent.reach(greatest);
-        let (nodes, skipped) = moved::divergences(&self.tracker, &self.lent, greatest, self.day)?;
+        let (nodes, skipped) = moved::divergences(&self.tracker, &self.lent, greatest)?;
         let shown = nodes.iter().take(NODES).map(|node| self.moved(*node));
         let more = nodes.len().saturating_sub(NODES);
         Ok((shown.collect::<Result<_, Refusal>>()?, more, skipped))

@@ -86,6 +86,50 @@ fn the_exit_status_tells_drift_and_what_is_not_judged() {
     assert_eq!(watch(&["../../days/example.txt"]).0, Some(3));
 }
 
+/// Nodes of one point at three scales, one of which has the prior; without a floor the others are
+/// not watched.
+#[test]
+fn a_floor_finds_nodes_by_their_points() {
+    let day = |head: &str| {
+        let sequences = "sequence\npath -4/7 -6/7\npath -4/7\nsequence\npath -4/7 -6/9\npath -4/7 -6/9\n";
+        let paths = "path -4/7 -6/7\npath -3/7 -6/9\n";
+        format!("{}prior -5/7 1 -6/7 2 -6/9 3\n{}day\n{}", head, sequences, paths)
+    };
+    let report = |name: &str, head: &str| watch(&[&file(name, day(head).as_bytes())]);
+    let has = |text: &str, line: &str| text.lines().any(|one| one.trim() == line);
+    let (status, exact, _) = report("exact", "");
+    assert_eq!(status, Some(4));
+    assert!(has(&exact, "paths: 2, all of them count; nodes with a prior: 1"), "{}", exact);
+    assert!(has(&exact, "not judged from path 1 on: no node that has a prior is in the window"), "{}", exact);
+    assert!(has(&exact, "4 nodes without a prior are not watched"), "{}", exact);
+    // The least scale is no floor.
+    let least = report("least", "floor -2147483648\n").1.replace("least", "exact");
+    assert_eq!(least, exact);
+    let (_, below, _) = report("below", "floor -3\n");
+    assert!(has(&below, "paths: 2, all of them count; priors: 1, floor -3"), "{}", below);
+    assert!(has(&below, "below the floor, scale -3, a node has the prior with its point"), "{}", below);
+    let nodes = |text: &str| -> Vec<String> {
+        let lines = text.lines().skip_while(|line| !line.starts_with("By node")).skip(1);
+        let words = lines.map(|line| line.split_whitespace().next().unwrap_or_default().to_string());
+        words.take_while(|word| word.contains('/')).collect()
+    };
+    // -6/7 has the point too, and ends; -3/7 is at the floor.
+    assert_eq!(nodes(&below), ["-6/7", "-4/7"]);
+    let shares = "goes to -6/7 100 % of the time, 33 % by the prior, 25 % in the training";
+    assert!(below.contains(shares), "{}", below);
+    let (_, all, _) = report("all", "floor 0\n");
+    assert_eq!(nodes(&all), ["-6/7", "-4/7", "-3/7"]);
+    assert!(has(&all, "1 node without a prior is not watched"), "{}", all);
+    // A child is known by its exact address.
+    let text = format!("floor -3\n{}path -4/7 -5/9\n", day(""));
+    let (status, other, _) = watch(&[&file("child", text.as_bytes())]);
+    assert_eq!(status, Some(3));
+    assert!(other.contains("-4/7 goes on to -5/9, which its prior does not have"), "{}", other);
+    let problem = "line 3: -5/7, in line 2, has this point and is below the floor, -3, too";
+    let twice = "floor -3\nprior -5/7 1\nprior -4/7 1\nday\npath -4/7\n";
+    assert_eq!(told("twice", twice.as_bytes()), (Some(1), vec![problem.to_string()]));
+}
+
 #[test]
 fn a_missing_file_and_wrong_arguments() {
     let (status, _, errors) = watch(&["none/none"]);
