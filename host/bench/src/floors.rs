@@ -16,6 +16,8 @@ const FLOOR: i32 = 0;
 const MOST_NODES: usize = 4_096;
 /// Calls of a round where every record has a scale of its own.
 const FEW: usize = 20;
+/// Its multiples are points that 22's test puts into one slot, the inverse of its factor modulo 2^32.
+const ONE_SLOT: u32 = 244_002_641;
 
 /// All rows.
 pub fn print(rounds: usize) {
@@ -41,7 +43,7 @@ fn ten_scales(rounds: usize) {
     let moved = moved(&load);
     theirs.lend_priors(&goko_priors(&load), FLOOR);
     let exact = load.records.lent();
-    let rows = [("2,000 records, ten scales", exact), ("the same, by point alone", moved.lent())];
+    let rows = [("2,000 records, ten scales", exact), ("those, by point alone", moved.lent())];
     for (name, records) in rows {
         let floored = records.with_floor(FLOOR);
         let lent = Lent { tables: Tables::new(&load.tables.g, &load.tables.d), floored, exact };
@@ -61,25 +63,52 @@ fn moved(load: &Load) -> PriorRecords {
     records
 }
 
-/// 4,096 records, each in a scale of its own below the floor, with points in another order.
+/// 4,096 records, each in a scale of its own below the floor: looked up from their own addresses, then
+/// all from one scale, so that the point alone finds them.
 fn scales_of_their_own(rounds: usize) {
-    let node = |index: usize| Address::new(index as i32 - 5_000, ((7 * index + 3) % MOST_NODES) as u32);
-    let nodes: Vec<Address> = (0..MOST_NODES).map(node).collect();
+    let tables = cases::tables::gamma(9);
+    let own = fine(|index| (7 * index + 3) % MOST_NODES as u32);
+    let from_one_scale: Vec<Address> = own.iter().map(|node| Address::new(-1, node.point)).collect();
+    let floored = records_of(&own);
+    let rows = [("4,096 records, as many scales", &own), ("those, by point alone", &from_one_scale)];
+    for (name, listed) in rows {
+        let exact = records_of(listed);
+        let (floored, exact) = (floored.lent().with_floor(FLOOR), exact.lent());
+        let lent = Lent { tables: Tables::new(&tables.g, &tables.d), floored, exact };
+        let mut book = vec![0; ENTRY_BYTES * MOST_NODES];
+        let mut ours = Tracker::open(0, &mut book, &mut []).expect("the sizes are taken");
+        listed.iter().for_each(|node| ours.add_path(&[*node]).expect("the book has room"));
+        let asked: Vec<Address> = listed.iter().step_by(MOST_NODES / FEW).copied().collect();
+        vectors(name, &ours, &lent, &asked, rounds);
+        lists(name, &ours, &lent, 1, rounds);
+    }
+    checks("4,096 records, as many scales", &own, rounds);
+    checks("those, points of one slot", &fine(|index| index.wrapping_mul(ONE_SLOT)), rounds);
+}
+
+/// As many addresses as there may be node records, each in a scale of its own below the floor.
+fn fine(point: fn(u32) -> u32) -> Vec<Address> {
+    (0..MOST_NODES as u32).map(|index| Address::new(index as i32 - 5_000, point(index))).collect()
+}
+
+/// Records without children at these addresses.
+fn records_of(nodes: &[Address]) -> PriorRecords {
+    let mut nodes = nodes.to_vec();
+    nodes.sort();
     let mut records = PriorRecords::default();
     nodes.iter().for_each(|node| records.node(*node, 1 + node.point % 3, &[]));
-    let mut book = vec![0; ENTRY_BYTES * MOST_NODES];
-    let mut ours = Tracker::open(0, &mut book, &mut []).expect("the sizes are taken");
-    nodes.iter().for_each(|node| ours.add_path(&[*node]).expect("the book has room"));
-    let tables = cases::tables::gamma(9);
-    let exact = records.lent();
-    let lent = Lent { tables: Tables::new(&tables.g, &tables.d), floored: exact.with_floor(FLOOR), exact };
-    let name = "4,096 records, each its own scale";
-    row(&format!("check, {}", name), rounds, || {
+    records
+}
+
+/// `check_priors` alone.
+fn checks(name: &str, nodes: &[Address], rounds: usize) {
+    let records = records_of(nodes);
+    let (floored, exact) = (records.lent().with_floor(FLOOR), records.lent());
+    let lent = Lent { tables: Tables::new(&[], &[]), floored, exact };
+    assert!(floored.check().is_ok() && exact.check().is_ok(), "the records are taken");
+    row(&format!("check_priors, {}", name), rounds, || {
         sides(FEW, &lent, |priors| (0..FEW).for_each(|_| let_go(black_box(priors.check()))))
     });
-    let asked: Vec<Address> = nodes.into_iter().step_by(MOST_NODES / FEW).collect();
-    vectors(name, &ours, &lent, &asked, rounds);
-    lists(name, &ours, &lent, 1, rounds);
 }
 
 /// Microseconds for each of `count` pieces of work, with the floor and without.
@@ -109,7 +138,7 @@ fn vectors(name: &str, ours: &Tracker, lent: &Lent, nodes: &[Address], rounds: u
     });
 }
 
-/// `all_node_kl`, `count` times a round.
+/// `all_node_kl` and `kl_div_stats`, `count` times a round.
 fn lists(name: &str, ours: &Tracker, lent: &Lent, count: usize, rounds: usize) {
     let (mut addresses, mut figures) = (vec![0; 8 * MOST_NODES], vec![0.0; MOST_NODES]);
     let mut output = Output { addresses: &mut addresses, figures: &mut figures };
@@ -123,6 +152,11 @@ fn lists(name: &str, ours: &Tracker, lent: &Lent, count: usize, rounds: usize) {
         sides(count, lent, |priors| {
             let mut read = |_| let_go(black_box(ours.all_node_kl(lent.tables, priors, &mut output)));
             (0..count).for_each(&mut read);
+        })
+    });
+    row(&format!("kl_div_stats, {}", name), rounds, || {
+        sides(count, lent, |priors| {
+            (0..count).for_each(|_| let_go(black_box(ours.kl_div_stats(lent.tables, priors))));
         })
     });
 }
