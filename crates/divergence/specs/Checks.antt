@@ -1,4 +1,4 @@
--- The checks that come before a reading: tables, priors, the tracker's form, the lowest number first. Assumes nothing.
+-- The checks that come before a reading, in this order: tables, priors, the tracker's form. Assumes nothing.
 use Prim.Native.Nat.{ℕ, zero, suc}
 use mathlib.Core.List.{List}
 use lib.Ieee.{Float}

@@ -1,4 +1,4 @@
--- What each reading answers, and what the lent outputs hold afterwards. The checks come in the order of their numbers: tables, priors, the tracker's form, then the
+-- What each reading answers, and what the lent outputs hold afterwards. The checks come in this order: tables, priors, the tracker's form, then the
 -- reading itself on a list of nodes. `form` is 9 where the tracker's form is broken, else 0; `layer` is the number of scales below the floor. Assumes nothing.
 use Prim.Native.Nat.{ℕ, zero, suc, _+_, _*_, _/_, min}
 use mathlib.Core.Bool.{cond}

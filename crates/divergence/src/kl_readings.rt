@@ -40,7 +40,7 @@ use priors::refusals::Reason;
 use priors::refusals::Refusal;
 use priors::tables::check_tables;
 
-// Tables, priors and the form of the tracker, in the order of their numbers.
+// Tables, priors and the form of the tracker, in this order.
 fn tested(
     t: Tracker,
     book: &[u8],

@@ -10,6 +10,7 @@ use crate::memory::all_zero;
 use crate::outputs::after_output;
 use crate::outputs::bring;
 use crate::outputs::same_output;
+use crate::refusals::floor_at;
 use crate::refusals::no_refusal;
 use crate::refusals::rank_at;
 use crate::refusals::same_refusal;
@@ -61,6 +62,7 @@ pub fn node_call(
         queue,
         bytes_at(tape, priors),
         bytes_at(tape, after_bytes(tape, priors)),
+        floor_at(tape, priors),
         first_of(&g, n),
         first_of(&d, m),
         a.scale,
@@ -111,6 +113,7 @@ pub fn stats_call(
         queue,
         bytes_at(tape, priors),
         bytes_at(tape, after_bytes(tape, priors)),
+        floor_at(tape, priors),
         first_of(&g, n),
         first_of(&d, m),
     );
@@ -166,6 +169,7 @@ fn all_cut(
         queue,
         nodes,
         children,
+        floor_at(tape, priors),
         g,
         d,
         &mut addresses[..n],

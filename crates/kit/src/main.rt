@@ -75,7 +75,7 @@ fn openings() {
 }
 
 fn readings() {
-    let mut tape = [0u8; 98304];
+    let mut tape = [0u8; 131072];
     let n = read_file(b"readings.bin", &mut tape);
     let mut book = [0u8; 1536];
     let mut queue = [0u8; 4644];

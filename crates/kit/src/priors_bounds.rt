@@ -93,7 +93,11 @@ fn put_all(s: &mut [u8], n: u32, linked: u32) {
 
 // The priors of so many bytes get this number.
 fn gets(nodes: &[u8], node_bytes: usize, children: &[u8], child_bytes: usize, wanted: u32) -> bool {
-    checked_number(check_priors(part(nodes, 0, node_bytes), part(children, 0, child_bytes)))
+    checked_number(check_priors(
+        part(nodes, 0, node_bytes),
+        part(children, 0, child_bytes),
+        0,
+    ))
         == wanted
 }
 

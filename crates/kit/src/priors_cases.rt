@@ -4,6 +4,7 @@ ghost use Rattle.priors.specs.Priors.{priorsRefusal};
 use crate::figures::first_of;
 use crate::figures::put_figures;
 use crate::refusals::rank_at;
+use crate::refusals::scale_at;
 use crate::tallies::Tally;
 use crate::tape::after_bytes;
 use crate::tape::after_case;
@@ -11,6 +12,7 @@ use crate::tape::after_figures;
 use crate::tape::bytes_at;
 use crate::tape::forward;
 use crate::tape::word;
+use priors::addresses::layer_of;
 use priors::checks::check_priors;
 use priors::lookups::ChildFound;
 use priors::lookups::NodeFound;
@@ -62,10 +64,10 @@ fn chain_length(children: &[u8], first: u32) -> u32 {
     n
 }
 
-fn look_up(nodes: &[u8], children: &[u8], node: u64, child: u64) -> Looked
-    requires { ⌜ priorsRefusal (now nodes) (now children) ≡ 0 ⌝ }
+fn look_up(nodes: &[u8], children: &[u8], layer: u32, node: u64, child: u64) -> Looked
+    requires { ⌜ priorsRefusal (now nodes) (now children) layer ≡ 0 ⌝ }
 {
-    match find_node(nodes, node) {
+    match find_node(nodes, layer, node) {
         NodeFound::NoNode => Looked {
             is_node: 0,
             singleton: 0,
@@ -101,23 +103,34 @@ fn same_numbers(tape: &[u8], at: usize, l: Looked) -> bool {
         && word(tape, forward(at, 4)) == l.count
 }
 
-fn same_lookup(tape: &[u8], at: usize, nodes: &[u8], children: &[u8]) -> bool
-    requires { ⌜ priorsRefusal (now nodes) (now children) ≡ 0 ⌝ }
+fn same_lookup(tape: &[u8], at: usize, nodes: &[u8], children: &[u8], layer: u32) -> bool
+    requires { ⌜ priorsRefusal (now nodes) (now children) layer ≡ 0 ⌝ }
 {
     let node = rank_at(tape, at);
     let child = rank_at(tape, forward(at, 2));
-    same_numbers(tape, forward(at, 4), look_up(nodes, children, node, child))
+    same_numbers(
+        tape,
+        forward(at, 4),
+        look_up(nodes, children, layer, node, child),
+    )
 }
 
 // The look-ups after the number at a place, and no more up to `end`.
-fn same_lookups(tape: &[u8], at: usize, end: usize, nodes: &[u8], children: &[u8]) -> bool
-    requires { ⌜ priorsRefusal (now nodes) (now children) ≡ 0 ⌝ }
+fn same_lookups(
+    tape: &[u8],
+    at: usize,
+    end: usize,
+    nodes: &[u8],
+    children: &[u8],
+    layer: u32,
+) -> bool
+    requires { ⌜ priorsRefusal (now nodes) (now children) layer ≡ 0 ⌝ }
 {
     let n = word(tape, at);
     let mut next = forward(at, 1);
     let mut i = 0;
     while i < n {
-        if !same_lookup(tape, next, nodes, children) {
+        if !same_lookup(tape, next, nodes, children, layer) {
             return false;
         }
         next = forward(next, LOOKUP_WORDS);
@@ -126,13 +139,15 @@ fn same_lookups(tape: &[u8], at: usize, end: usize, nodes: &[u8], children: &[u8
     next == end
 }
 
-// Prior records, the number of their refusal, and look-ups.
+// Prior records and their floor, the number of their refusal, and look-ups.
 fn same_priors(tape: &[u8], at: usize, end: usize) -> bool {
     let nodes = bytes_at(tape, at);
     let second = after_bytes(tape, at);
     let children = bytes_at(tape, second);
-    let answer = after_bytes(tape, second);
-    match check_priors(nodes, children) {
+    let floor = after_bytes(tape, second);
+    let layer = layer_of(scale_at(tape, floor));
+    let answer = forward(floor, 1);
+    match check_priors(nodes, children, layer) {
         Checked::Refused(r) => {
             word(tape, answer) == number(r)
                 && word(tape, forward(answer, 1)) == 0
@@ -142,7 +157,7 @@ fn same_priors(tape: &[u8], at: usize, end: usize) -> bool {
             if word(tape, answer) != 0 {
                 return false;
             }
-            same_lookups(tape, forward(answer, 1), end, nodes, children)
+            same_lookups(tape, forward(answer, 1), end, nodes, children, layer)
         }
     }
 }

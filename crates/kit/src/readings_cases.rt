@@ -77,7 +77,7 @@ fn call(l: Lending, tape: &[u8], book: &mut [u8], queue: &mut [u8]) -> Lending {
         return lent(moved(p, after), at, l.priors);
     }
     if kind == 4 {
-        let after = after_bytes(tape, after_bytes(tape, at));
+        let after = forward(after_bytes(tape, after_bytes(tape, at)), 1);
         return lent(moved(p, after), l.tables, at);
     }
     let read = reading(

@@ -10,6 +10,7 @@ use crate::numbers::put_numbers;
 use crate::numbers::same_numbers;
 use crate::refusals::no_refusal;
 use crate::refusals::same_refusal;
+use crate::refusals::scale_at;
 use crate::tape::after_bytes;
 use crate::tape::after_figures;
 use crate::tape::after_numbers;
@@ -26,6 +27,7 @@ struct Training {
     d: usize,
     nodes: usize,
     children: usize,
+    floor: usize,
     numbers: usize,
     sequences: usize,
     book: usize,
@@ -38,7 +40,8 @@ fn training_at(tape: &[u8], at: usize) -> Training {
     let d = after_figures(tape, at);
     let nodes = after_figures(tape, d);
     let children = after_bytes(tape, nodes);
-    let numbers = after_bytes(tape, children);
+    let floor = after_bytes(tape, children);
+    let numbers = forward(floor, 1);
     let sequences = forward(numbers, 3);
     let book = after_places(tape, sequences);
     let knots = after_bytes(tape, book);
@@ -49,6 +52,7 @@ fn training_at(tape: &[u8], at: usize) -> Training {
         d,
         nodes,
         children,
+        floor,
         numbers,
         sequences,
         book,
@@ -108,6 +112,7 @@ fn same_training(
         d,
         bytes_at(tape, t.nodes),
         bytes_at(tape, t.children),
+        scale_at(tape, t.floor),
         sequences,
         word(tape, t.numbers),
         word(tape, forward(t.numbers, 1)),

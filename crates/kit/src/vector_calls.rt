@@ -9,6 +9,7 @@ use crate::memory::all_zero;
 use crate::outputs::after_output;
 use crate::outputs::bring;
 use crate::outputs::same_output;
+use crate::refusals::floor_at;
 use crate::refusals::no_refusal;
 use crate::refusals::rank_at;
 use crate::refusals::same_refusal;
@@ -74,6 +75,7 @@ fn vector_cut(
         queue,
         nodes,
         children,
+        floor_at(tape, priors),
         a.scale,
         a.point,
         &mut addresses[..n],

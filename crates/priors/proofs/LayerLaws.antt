@@ -17,7 +17,7 @@ use mir.ValLaws.{toZ-ofZ, ofZ-toZ, ofZ-fits}
 use borrow.Author.Tests.{ltb-true, lt-ltb, le-ltb, eqb-true, eq-eqb}
 use Rattle.priors.specs.declared.records.Record.{Record}
 use Rattle.priors.specs.Address.{rank, rankOf, lift}
-use Rattle.priors.specs.Priors.{recordAt, recordCount, records, ascends, layerOf, inLayer, pointOf, clash, answers, findRecord, clearBefore, pointsDiffer}
+use Rattle.priors.specs.Priors.{recordAt, recordCount, records, ascends, layerOf, inLayer, pointOf, onePoint, foundBy, findRecord, clearBefore, pointsDiffer}
 use Rattle.priors.specs.Layer.{floorOf, FirstFrom, Absent}
 use Rattle.priors.proofs.Tests.{split, three, both}
 use Rattle.priors.proofs.Ranks.{lift-lt, lift-back, lift-signed}
@@ -39,7 +39,7 @@ layer-back layer l = ap lift (ofZ-toZ w32 (lift layer) (record { fits = lift-lt 
 pub floor-back : (floor : ℤ) → SFits w32 floor → floorOf (layerOf floor) ≡ floor
 floor-back floor f = ap (toZ w32) (lift-back (ofZ w32 floor) (omega (arith, ofZ-fits w32 floor f))) ∙ toZ-ofZ w32 floor f
 
--- ---- what a clash tells, and an answer
+-- ---- what one point tells, and what is found by it
 
 pub no-answer : (b : Bool) → (b ≡ true → ⊥) → b ≡ false
 no-answer true h = absurd (h refl)
@@ -50,100 +50,100 @@ not-both true p q = let z : _≡_ {A = ℕ} 0 1 = cc in omega arith
 not-both false p q = let z : _≡_ {A = ℕ} 0 1 = cc in omega arith
 
 module _ (layer a b : ℕ) where
-  pub clashes : a / 2 ^ 32 < layer → b / 2 ^ 32 < layer → pointOf a ≡ pointOf b → clash layer a b ≡ true
-  unfolding clash
-  clashes l m e = rw (lt-ltb (a / 2 ^ 32) layer l, lt-ltb (b / 2 ^ 32) layer m, eq-eqb (pointOf a) (pointOf b) e)
+  pub point-holds : a / 2 ^ 32 < layer → b / 2 ^ 32 < layer → pointOf a ≡ pointOf b → onePoint layer a b ≡ true
+  unfolding onePoint
+  point-holds l m e = rw (lt-ltb (a / 2 ^ 32) layer l, lt-ltb (b / 2 ^ 32) layer m, eq-eqb (pointOf a) (pointOf b) e)
 
-  pub clash-first : layer ≤ a / 2 ^ 32 → false ≡ clash layer a b
-  unfolding clash
-  clash-first l = rw (le-ltb (a / 2 ^ 32) layer l)
+  pub apart-first : layer ≤ a / 2 ^ 32 → false ≡ onePoint layer a b
+  unfolding onePoint
+  apart-first l = rw (le-ltb (a / 2 ^ 32) layer l)
 
-  pub clash-second : a / 2 ^ 32 < layer → layer ≤ b / 2 ^ 32 → false ≡ clash layer a b
-  unfolding clash
-  clash-second l m = rw (lt-ltb (a / 2 ^ 32) layer l, le-ltb (b / 2 ^ 32) layer m)
+  pub apart-second : a / 2 ^ 32 < layer → layer ≤ b / 2 ^ 32 → false ≡ onePoint layer a b
+  unfolding onePoint
+  apart-second l m = rw (lt-ltb (a / 2 ^ 32) layer l, le-ltb (b / 2 ^ 32) layer m)
 
-  pub clash-low : a / 2 ^ 32 < layer → b / 2 ^ 32 < layer → eqb (pointOf a) (pointOf b) ≡ clash layer a b
-  unfolding clash
-  clash-low l m = rw (lt-ltb (a / 2 ^ 32) layer l, lt-ltb (b / 2 ^ 32) layer m)
+  pub point-low : a / 2 ^ 32 < layer → b / 2 ^ 32 < layer → eqb (pointOf a) (pointOf b) ≡ onePoint layer a b
+  unfolding onePoint
+  point-low l m = rw (lt-ltb (a / 2 ^ 32) layer l, lt-ltb (b / 2 ^ 32) layer m)
 
-  pub clash-parts : clash layer a b ≡ true → (a / 2 ^ 32 < layer) × (b / 2 ^ 32 < layer) × (pointOf a ≡ pointOf b)
-  unfolding clash
-  clash-parts h =
+  pub point-parts : onePoint layer a b ≡ true → (a / 2 ^ 32 < layer) × (b / 2 ^ 32 < layer) × (pointOf a ≡ pointOf b)
+  unfolding onePoint
+  point-parts h =
       let t = both (inLayer layer a) (inLayer layer b && eqb (pointOf a) (pointOf b)) h in
       let u = both (inLayer layer b) (eqb (pointOf a) (pointOf b)) (t .1) in
       (ltb-true (a / 2 ^ 32) layer (t .0), ltb-true (b / 2 ^ 32) layer (u .0), eqb-true (pointOf a) (pointOf b) (u .1))
 
 module _ (layer wanted own : ℕ) where
-  pub answers-low : wanted / 2 ^ 32 < layer → answers layer wanted own ≡ clash layer wanted own
-  unfolding answers
-  answers-low l = rw (lt-ltb (wanted / 2 ^ 32) layer l)
+  pub found-low : wanted / 2 ^ 32 < layer → foundBy layer wanted own ≡ onePoint layer wanted own
+  unfolding foundBy
+  found-low l = rw (lt-ltb (wanted / 2 ^ 32) layer l)
 
-  pub answers-high : layer ≤ wanted / 2 ^ 32 → answers layer wanted own ≡ eqb own wanted
-  unfolding answers
-  answers-high l = rw (le-ltb (wanted / 2 ^ 32) layer l)
+  pub found-high : layer ≤ wanted / 2 ^ 32 → foundBy layer wanted own ≡ eqb own wanted
+  unfolding foundBy
+  found-high l = rw (le-ltb (wanted / 2 ^ 32) layer l)
 
-  pub exact-answers : own ≡ wanted → answers layer wanted own ≡ true
-  exact-answers e =
+  pub exact-found : own ≡ wanted → foundBy layer wanted own ≡ true
+  exact-found e =
       ⊎-elim
-      (λ l. answers-low l ∙ clashes layer wanted own l (omega arith) (ap pointOf (sym e)))
-      (λ l. answers-high l ∙ eq-eqb own wanted e)
+      (λ l. found-low l ∙ point-holds layer wanted own l (omega arith) (ap pointOf (sym e)))
+      (λ l. found-high l ∙ eq-eqb own wanted e)
       (split (wanted / 2 ^ 32) layer)
 
 -- ---- at most one
 
-module _ (s : List ℕ) (layer : ℕ) (up : ascends (records s) ≡ true) (differ : pointsDiffer s layer ≡ true) where
-  -- 22, at two places
-  points-apart : (j i : ℕ) → j < i → i < recordCount s → clash layer (recordAt s i .rank) (recordAt s j .rank) ≡ true → ⊥
-  unfolding pointsDiffer clearBefore
-  points-apart j i l m t =
-      not-both (clash layer (recordAt s i .rank) (recordAt s j .rank))
-      (all-at (λ k. not (clash layer (recordAt s i .rank) (recordAt s k .rank))) i j (all-at (clearBefore s layer) (recordCount s) i differ m) l)
-      t
+-- 22, at two places
+pub points-apart : (s : List ℕ) (layer : ℕ) → pointsDiffer s layer ≡ true → (j i : ℕ) → j < i → i < recordCount s → onePoint layer (recordAt s i .rank) (recordAt s j .rank) ≡ true → ⊥
+unfolding pointsDiffer clearBefore
+points-apart s layer differ j i l m t =
+    not-both (onePoint layer (recordAt s i .rank) (recordAt s j .rank))
+    (all-at (λ k. not (onePoint layer (recordAt s i .rank) (recordAt s k .rank))) i j (all-at (clearBefore s layer) (recordCount s) i differ m) l)
+    t
 
-  two-never : (wanted j i : ℕ) → j < i → i < recordCount s → answers layer wanted (recordAt s i .rank) ≡ true → answers layer wanted (recordAt s j .rank) ≡ true → ⊥
+module _ (s : List ℕ) (layer : ℕ) (up : ascends (records s) ≡ true) (differ : pointsDiffer s layer ≡ true) where
+  two-never : (wanted j i : ℕ) → j < i → i < recordCount s → foundBy layer wanted (recordAt s i .rank) ≡ true → foundBy layer wanted (recordAt s j .rank) ≡ true → ⊥
   two-never wanted j i l m p q =
       ⊎-elim
       (λ b.
-      let p′ = clash-parts layer wanted (recordAt s i .rank) (sym (answers-low layer wanted (recordAt s i .rank) b) ∙ p) in
-      let q′ = clash-parts layer wanted (recordAt s j .rank) (sym (answers-low layer wanted (recordAt s j .rank) b) ∙ q) in
-      points-apart j i l m (clashes layer (recordAt s i .rank) (recordAt s j .rank) (p′ .1) (q′ .1) (sym (p′ .2) ∙ q′ .2)))
+      let p′ = point-parts layer wanted (recordAt s i .rank) (sym (found-low layer wanted (recordAt s i .rank) b) ∙ p) in
+      let q′ = point-parts layer wanted (recordAt s j .rank) (sym (found-low layer wanted (recordAt s j .rank) b) ∙ q) in
+      points-apart s layer differ j i l m (point-holds layer (recordAt s i .rank) (recordAt s j .rank) (p′ .1) (q′ .1) (sym (p′ .2) ∙ q′ .2)))
       (λ b.
-      omega (arith, eqb-true (recordAt s i .rank) wanted (sym (answers-high layer wanted (recordAt s i .rank) b) ∙ p), eqb-true (recordAt s j .rank) wanted (sym (answers-high layer wanted (recordAt s j .rank) b) ∙ q), ordered s j i up l m))
+      omega (arith, eqb-true (recordAt s i .rank) wanted (sym (found-high layer wanted (recordAt s i .rank) b) ∙ p), eqb-true (recordAt s j .rank) wanted (sym (found-high layer wanted (recordAt s j .rank) b) ∙ q), ordered s j i up l m))
       (split (wanted / 2 ^ 32) layer)
 
   -- where 4 and 22 pass, at most one record fits
-  pub one-answers : (wanted i j : ℕ) → i < recordCount s → j < recordCount s → answers layer wanted (recordAt s i .rank) ≡ true → answers layer wanted (recordAt s j .rank) ≡ true → i ≡ j
-  one-answers wanted i j l m p q =
+  pub one-found : (wanted i j : ℕ) → i < recordCount s → j < recordCount s → foundBy layer wanted (recordAt s i .rank) ≡ true → foundBy layer wanted (recordAt s j .rank) ≡ true → i ≡ j
+  one-found wanted i j l m p q =
       ⊎-elim (λ b. absurd (two-never wanted i j b m q p)) (⊎-elim (λ e. e) (λ b. absurd (two-never wanted j i b l p q))) (three i j)
 
 -- ---- what a search shows
 
 module _ (layer wanted : ℕ) where
-  found-at : (rs : List Record) (i : ℕ) → i < length rs → ((j : ℕ) → j < i → answers layer wanted (getD rs j noRecord .rank) ≡ false) → answers layer wanted (getD rs i noRecord .rank) ≡ true → findRecord layer wanted rs ≡ some (getD rs i noRecord)
+  found-at : (rs : List Record) (i : ℕ) → i < length rs → ((j : ℕ) → j < i → foundBy layer wanted (getD rs j noRecord .rank) ≡ false) → foundBy layer wanted (getD rs i noRecord .rank) ≡ true → findRecord layer wanted rs ≡ some (getD rs i noRecord)
   unfolding findRecord
   found-at [] i l h e = absurd (omega arith)
   found-at (r ∷ rs) zero l h e = rw e
   found-at (r ∷ rs) (suc i) l h e = rw (h 0 (omega arith)) (found-at rs i (omega arith) (λ j m. h (suc j) (omega arith)) e)
 
-  found-nowhere : (rs : List Record) → ((j : ℕ) → j < length rs → answers layer wanted (getD rs j noRecord .rank) ≡ false) → findRecord layer wanted rs ≡ none
+  found-nowhere : (rs : List Record) → ((j : ℕ) → j < length rs → foundBy layer wanted (getD rs j noRecord .rank) ≡ false) → findRecord layer wanted rs ≡ none
   unfolding findRecord
   found-nowhere [] h = refl
   found-nowhere (r ∷ rs) h = rw (h 0 (omega arith)) (found-nowhere rs (λ j m. h (suc j) (omega arith)))
 
 module _ (s : List ℕ) (layer wanted : ℕ) where
-  same-answer : (j : ℕ) → j < recordCount s → answers layer wanted (getD (records s) j noRecord .rank) ≡ answers layer wanted (recordAt s j .rank)
-  same-answer j l = ap (λ (r : Record). answers layer wanted (r .rank)) (getD-records s j l)
+  same-answer : (j : ℕ) → j < recordCount s → foundBy layer wanted (getD (records s) j noRecord .rank) ≡ foundBy layer wanted (recordAt s j .rank)
+  same-answer j l = ap (λ (r : Record). foundBy layer wanted (r .rank)) (getD-records s j l)
 
   -- a record that fits is the one found
-  pub found-one : ascends (records s) ≡ true → pointsDiffer s layer ≡ true → (i : ℕ) → i < recordCount s → answers layer wanted (recordAt s i .rank) ≡ true → findRecord layer wanted (records s) ≡ some (recordAt s i)
+  pub found-one : ascends (records s) ≡ true → pointsDiffer s layer ≡ true → (i : ℕ) → i < recordCount s → foundBy layer wanted (recordAt s i .rank) ≡ true → findRecord layer wanted (records s) ≡ some (recordAt s i)
   found-one up differ i l e =
       found-at layer wanted (records s) i (omega (arith, length-records s))
-      (λ j m. same-answer j (omega arith) ∙ no-answer _ (λ t. omega (arith, one-answers s layer up differ wanted j i (omega arith) l t e)))
+      (λ j m. same-answer j (omega arith) ∙ no-answer _ (λ t. omega (arith, one-found s layer up differ wanted j i (omega arith) l t e)))
       (same-answer i l ∙ e)
       ∙ ap some (getD-records s i l)
 
   -- where none fits, none is found
-  pub found-no : ((j : ℕ) → j < recordCount s → answers layer wanted (recordAt s j .rank) ≡ true → ⊥) → findRecord layer wanted (records s) ≡ none
+  pub found-no : ((j : ℕ) → j < recordCount s → foundBy layer wanted (recordAt s j .rank) ≡ true → ⊥) → findRecord layer wanted (records s) ≡ none
   found-no h =
       found-nowhere layer wanted (records s) (λ j m.
       let l : j < recordCount s = omega (arith, length-records s) in
@@ -151,7 +151,7 @@ module _ (s : List ℕ) (layer wanted : ℕ) where
 
   -- past the layer only the exact address fits
   pub none-exact : layer ≤ wanted / 2 ^ 32 → Absent s wanted → findRecord layer wanted (records s) ≡ none
-  none-exact high absent = found-no (λ j l t. absent j l (eqb-true (recordAt s j .rank) wanted (sym (answers-high layer wanted (recordAt s j .rank) high) ∙ t)))
+  none-exact high absent = found-no (λ j l t. absent j l (eqb-true (recordAt s j .rank) wanted (sym (found-high layer wanted (recordAt s j .rank) high) ∙ t)))
 
 -- where the place of a rank has another, no record has it
 pub none-there : (s : List ℕ) (k at : ℕ) → ascends (records s) ≡ true → FirstFrom s 0 k at → (at < recordCount s → recordAt s at .rank ≡ k → ⊥) → Absent s k
@@ -195,7 +195,7 @@ module _ (s : List ℕ) (layer wanted : ℕ) (up : ascends (records s) ≡ true)
   pub none-left : (start : ℕ) → Passed s layer wanted start → ((j : ℕ) → start ≤ j → j < recordCount s → recordAt s j .rank / 2 ^ 32 < layer → pointOf (recordAt s j .rank) ≡ pointOf wanted → ⊥) → findRecord layer wanted (records s) ≡ none
   none-left start p q =
       found-no s layer wanted (λ j l t.
-      let a = clash-parts layer wanted (recordAt s j .rank) (sym (answers-low layer wanted (recordAt s j .rank) low) ∙ t) in
+      let a = point-parts layer wanted (recordAt s j .rank) (sym (found-low layer wanted (recordAt s j .rank) low) ∙ t) in
       ⊎-elim (λ b. p j b (a .1) (sym (a .2))) (λ b. q j b l (a .1) (sym (a .2))) (split j start))
 
   pub all-high : (start : ℕ) → start < recordCount s → Passed s layer wanted start → layer ≤ recordAt s start .rank / 2 ^ 32 → findRecord layer wanted (records s) ≡ none
@@ -237,7 +237,7 @@ module _ (s : List ℕ) (layer wanted : ℕ) (up : ascends (records s) ≡ true)
   found-key differ own at l m e =
       let r = recordAt s at .rank in
       found-one s layer wanted up differ at m
-      (answers-low layer wanted r low ∙ clashes layer wanted r low (omega (arith, e, key-low own wanted)) (sym (ap pointOf e ∙ key-point own wanted)))
+      (found-low layer wanted r low ∙ point-holds layer wanted r low (omega (arith, e, key-low own wanted)) (sym (ap pointOf e ∙ key-point own wanted)))
 
 -- ---- a place by steps
 

@@ -12,7 +12,7 @@ use borrow.Author.Tests.{leb-true, ltb-true}
 use Rattle.priors.specs.Limits.{maxChain, maxNodes, maxChildren, recordSize}
 use Rattle.priors.specs.declared.records.Record.{Record}
 use Rattle.priors.specs.Rows.{row, countOf}
-use Rattle.priors.specs.Priors.{recordAt, recordCount, records, ascends, findRecord, chain, chainOf, Counts, countSum, total, priorOf, priorOfNode, wholeRecords, firstLinkFits, nextLinkFits, chainFits, chainAscends, countFits, totalFits, pointsDiffer, answers, everyNode, everyChild, priorsRefusal}
+use Rattle.priors.specs.Priors.{recordAt, recordCount, records, ascends, findRecord, chain, chainOf, Counts, countSum, total, priorOf, priorOfNode, wholeRecords, firstLinkFits, nextLinkFits, chainFits, chainAscends, countFits, totalFits, pointsDiffer, foundBy, everyNode, everyChild, priorsRefusal}
 use Rattle.priors.proofs.Ranks.{Bytes, word-lt}
 use Rattle.priors.proofs.BelowLaws.{second-true, all-at}
 use Rattle.priors.proofs.ChainLaws.{next-small}
@@ -59,7 +59,7 @@ not-too-many s most h = leb-true (recordCount s) most (second-true (eqb (length 
 found-in : (layer k : ℕ) (rs : List Record) (r : Record) → findRecord layer k rs ≡ some r → (i : ℕ) × ((i < length rs) × (getD rs i noRecord ≡ r))
 unfolding findRecord
 found-in layer k [] r h = let z : _≡_ {A = ℕ} 0 1 = cc in absurd (omega arith)
-found-in layer k (x ∷ rs) r h = go (answers layer k (x .rank)) h (found-in layer k rs r)
+found-in layer k (x ∷ rs) r h = go (foundBy layer k (x .rank)) h (found-in layer k rs r)
   where
     go : (b : Bool) → cond b (some x) (findRecord layer k rs) ≡ some r → (findRecord layer k rs ≡ some r → (i : ℕ) × ((i < length rs) × (getD rs i noRecord ≡ r)))
         → (i : ℕ) × ((i < suc (length rs)) × (getD (x ∷ rs) i noRecord ≡ r))

@@ -1,4 +1,4 @@
--- 22 along slots: a record clashes only with one of its slot, and the links lead to all of those before it. Assumes nothing.
+-- 22 along slots: a record has one point only with one of its slot, and the links lead to all of those before it. Assumes nothing.
 use mathlib.Core.Path.{_≡_, refl, sym, ap, _∙_}
 use mathlib.Core.Logic.{⊎-elim}
 use mathlib.Core.Bool.{Bool, true, false, not}
@@ -8,12 +8,12 @@ use mathlib.Core.List.{List}
 use lib.ListN.{length, getD, set, replicate, getD-replicate}
 use lib.Seq.{getD-set-same, getD-set-other}
 use Rattle.priors.specs.Below.{allBelow}
-use Rattle.priors.specs.Priors.{recordAt, recordCount, records, ascends, pointOf, clash, clearBefore, pointsDiffer}
+use Rattle.priors.specs.Priors.{recordAt, recordCount, records, ascends, pointOf, onePoint, clearBefore, pointsDiffer}
 use Rattle.priors.specs.Layer.{slot, slotOf, Latest, Linked}
 use Rattle.priors.proofs.Tests.{split, three}
 use Rattle.priors.proofs.BelowLaws.{all-at, all-fails, all-more}
 use Rattle.priors.proofs.RecordLaws.{not-below}
-use Rattle.priors.proofs.LayerLaws.{not-both, clash-parts}
+use Rattle.priors.proofs.LayerLaws.{not-both, point-parts}
 
 pub all-from : (f : ℕ → Bool) (n : ℕ) → ((j : ℕ) → j < n → f j ≡ true) → allBelow n f ≡ true
 unfolding allBelow
@@ -27,41 +27,41 @@ is-clear : (b : Bool) → (b ≡ true → ⊥) → not b ≡ true
 is-clear true h = absurd (h refl)
 is-clear false h = refl
 
--- the record i clashes with none from this place on
+-- the record i has one point with none from this place on
 abbrev pub ClearFrom : List ℕ → ℕ → ℕ → ℕ → Type 0
-ClearFrom s layer i at = (j : ℕ) → at ≤ j → j < i → clash layer (recordAt s i .rank) (recordAt s j .rank) ≡ true → ⊥
+ClearFrom s layer i at = (j : ℕ) → at ≤ j → j < i → onePoint layer (recordAt s i .rank) (recordAt s j .rank) ≡ true → ⊥
 
 module _ (s : List ℕ) (layer i : ℕ) where
-  other-slot : (j : ℕ) → clash layer (recordAt s i .rank) (recordAt s j .rank) ≡ true → slotOf s j ≡ slotOf s i
-  other-slot j t = one-slot (recordAt s i .rank) (recordAt s j .rank) (clash-parts layer (recordAt s i .rank) (recordAt s j .rank) t .2)
+  other-slot : (j : ℕ) → onePoint layer (recordAt s i .rank) (recordAt s j .rank) ≡ true → slotOf s j ≡ slotOf s i
+  other-slot j t = one-slot (recordAt s i .rank) (recordAt s j .rank) (point-parts layer (recordAt s i .rank) (recordAt s j .rank) t .2)
 
   -- from the last one with its slot on
   pub clear-last : (v : ℕ) → Latest s i (slotOf s i) v → ClearFrom s layer i v
   clear-last v h j l m t = h .1 j l m (other-slot j t)
 
   -- from one on to the one before it in its slot
-  pub clear-on : (at k v : ℕ) → at ≡ suc k → ClearFrom s layer i at → clash layer (recordAt s i .rank) (recordAt s k .rank) ≡ false → slotOf s k ≡ slotOf s i → Latest s k (slotOf s k) v → ClearFrom s layer i v
+  pub clear-on : (at k v : ℕ) → at ≡ suc k → ClearFrom s layer i at → onePoint layer (recordAt s i .rank) (recordAt s k .rank) ≡ false → slotOf s k ≡ slotOf s i → Latest s k (slotOf s k) v → ClearFrom s layer i v
   clear-on at k v e h f x latest j l m t =
       ⊎-elim
       (λ (b : j < k). latest .1 j l b (other-slot j t ∙ sym x))
       (⊎-elim
-      (λ (b : j ≡ k). not-both (clash layer (recordAt s i .rank) (recordAt s k .rank)) (ap not f) (ap (λ (n : ℕ). clash layer (recordAt s i .rank) (recordAt s n .rank)) (sym b) ∙ t))
+      (λ (b : j ≡ k). not-both (onePoint layer (recordAt s i .rank) (recordAt s k .rank)) (ap not f) (ap (λ (n : ℕ). onePoint layer (recordAt s i .rank) (recordAt s n .rank)) (sym b) ∙ t))
       (λ (b : k < j). h j (omega arith) m t))
       (three j k)
 
   pub clear-all : ClearFrom s layer i 0 → clearBefore s layer i ≡ true
   unfolding clearBefore
   clear-all h =
-      all-from (λ j. not (clash layer (recordAt s i .rank) (recordAt s j .rank))) i (λ j l.
-      is-clear (clash layer (recordAt s i .rank) (recordAt s j .rank)) (h j (omega arith) l))
+      all-from (λ j. not (onePoint layer (recordAt s i .rank) (recordAt s j .rank))) i (λ j l.
+      is-clear (onePoint layer (recordAt s i .rank) (recordAt s j .rank)) (h j (omega arith) l))
 
-  pub clear-fails : (j : ℕ) → j < i → clash layer (recordAt s i .rank) (recordAt s j .rank) ≡ true → clearBefore s layer i ≡ false
+  pub clear-fails : (j : ℕ) → j < i → onePoint layer (recordAt s i .rank) (recordAt s j .rank) ≡ true → clearBefore s layer i ≡ false
   unfolding clearBefore
-  clear-fails j l t = all-fails (λ k. not (clash layer (recordAt s i .rank) (recordAt s k .rank))) i j l (ap not t)
+  clear-fails j l t = all-fails (λ k. not (onePoint layer (recordAt s i .rank) (recordAt s k .rank))) i j l (ap not t)
 
-  -- a record that is not in the layer clashes with none
+  -- a record that is not in the layer has one point with none
   clear-high : layer ≤ recordAt s i .rank / 2 ^ 32 → clearBefore s layer i ≡ true
-  clear-high h = clear-all (λ j l m t. omega (arith, clash-parts layer (recordAt s i .rank) (recordAt s j .rank) t .0))
+  clear-high h = clear-all (λ j l m t. omega (arith, point-parts layer (recordAt s i .rank) (recordAt s j .rank) t .0))
 
 -- where the record i is not in the layer, nor is any after it
 pub rest-clear : (s : List ℕ) (layer i : ℕ) → ascends (records s) ≡ true → layer ≤ recordAt s i .rank / 2 ^ 32 → allBelow i (clearBefore s layer) ≡ true → pointsDiffer s layer ≡ true
@@ -80,6 +80,11 @@ few-clear s layer l = first-clear s layer (recordCount s) l
 
 pub second-high : (s : List ℕ) (layer : ℕ) → ascends (records s) ≡ true → layer ≤ recordAt s 1 .rank / 2 ^ 32 → pointsDiffer s layer ≡ true
 second-high s layer up h = rest-clear s layer 1 up h (first-clear s layer 1 (omega arith))
+
+-- where no two have one point, 22 is passed
+pub points-differ : (s : List ℕ) (layer : ℕ) → ((j i : ℕ) → j < i → i < recordCount s → onePoint layer (recordAt s i .rank) (recordAt s j .rank) ≡ true → ⊥) → pointsDiffer s layer ≡ true
+unfolding pointsDiffer
+points-differ s layer h = all-from (clearBefore s layer) (recordCount s) (λ i l. clear-all s layer i (λ j a b t. h j i b l t))
 
 -- nothing lies in a layer of no scales
 pub empty-layer : (s : List ℕ) → pointsDiffer s 0 ≡ true

@@ -25,7 +25,7 @@ FirstFrom s from k r = (from ≤ r) × (r ≤ recordCount s) × ((j : ℕ) → f
 abbrev pub Absent : List ℕ → ℕ → Type 0
 Absent s k = (j : ℕ) → j < recordCount s → recordAt s j .rank ≡ k → ⊥
 
--- the slot of a rank, by its point alone: twelve bits of a product that spreads points with a common step
+-- the slot of a rank, by its point alone: twelve bits of a product, which spreads points with most common steps
 abbrev pub slot : ℕ → ℕ
 slot r = pointOf r * 2654435761 / 1048576 % 4096
 

@@ -72,7 +72,7 @@ childrenOf children link = map (λ (r : Record). row (r .rank) (r .count)) (chai
 abbrev pub priorOfNode : List ℕ → Record → Counts
 priorOfNode children node = record { ending = node .count; children = childrenOf children (node .link) }
 
--- the scales below the floor share a layer: their number
+-- the scales below the floor share a layer; how many there are
 abbrev pub layerOf : ℤ → ℕ
 layerOf floor = lift (ofZ w32 floor)
 
@@ -84,19 +84,19 @@ abbrev pub pointOf : ℕ → ℕ
 pointOf rank = rank % 2 ^ 32
 
 -- two addresses in the layer with one point
-unfoldable pub clash : (layer a b : ℕ) → Bool
-clash layer a b = inLayer layer a && (inLayer layer b && eqb (pointOf a) (pointOf b))
+unfoldable pub onePoint : (layer a b : ℕ) → Bool
+onePoint layer a b = inLayer layer a && (inLayer layer b && eqb (pointOf a) (pointOf b))
 
--- the node record with the rank `own` is the one that `wanted` is looked up by: in the layer by point among those in it, else by exact address
-unfoldable pub answers : (layer wanted own : ℕ) → Bool
-answers layer wanted own = cond (inLayer layer wanted) (clash layer wanted own) (eqb own wanted)
+-- a look-up of the address `wanted` finds the node record with the address `own`: in the layer by point among those in it, else by exact address
+unfoldable pub foundBy : (layer wanted own : ℕ) → Bool
+foundBy layer wanted own = cond (inLayer layer wanted) (onePoint layer wanted own) (eqb own wanted)
 
--- the first such record; where 4 and 22 pass there is at most one (`one-answers` of proofs/LayerLaws.antt)
+-- the first such record; where 4 and 22 pass there is at most one (`OneFound` of specs/Floors.antt)
 unfoldable pub findRecord : (layer wanted : ℕ) → List Record → Option Record
 findRecord layer wanted [] = none
-findRecord layer wanted (r ∷ rs) = cond (answers layer wanted (r .rank)) (some r) (findRecord layer wanted rs)
+findRecord layer wanted (r ∷ rs) = cond (foundBy layer wanted (r .rank)) (some r) (findRecord layer wanted rs)
 
--- the prior of an address, if a node record has it
+-- the prior of an address: that of the record that its look-up finds, if there is one
 unfoldable pub priorOf : (nodes children : List ℕ) (layer rank : ℕ) → Option Counts
 priorOf nodes children layer rank = Option·map (priorOfNode children) (findRecord layer rank (records nodes))
 
@@ -146,9 +146,9 @@ everyNode nodes test = allBelow (recordCount nodes) test
 abbrev pub everyChild : List ℕ → (ℕ → Bool) → Bool
 everyChild children test = allBelow (recordCount children) test
 
--- 22: the node record i clashes with none before it
+-- 22: the node record i has one point with none before it
 unfoldable pub clearBefore : (nodes : List ℕ) (layer i : ℕ) → Bool
-clearBefore nodes layer i = allBelow i (λ j. not (clash layer (recordAt nodes i .rank) (recordAt nodes j .rank)))
+clearBefore nodes layer i = allBelow i (λ j. not (onePoint layer (recordAt nodes i .rank) (recordAt nodes j .rank)))
 
 -- 22: no two node records below the floor have one point
 unfoldable pub pointsDiffer : (nodes : List ℕ) (layer : ℕ) → Bool

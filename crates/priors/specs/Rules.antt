@@ -1,4 +1,4 @@
--- Rules in the order of their numbers: the lowest number comes first. Assumes nothing.
+-- Rules, of which the first broken one gives the number. Assumes nothing.
 use Prim.Native.Nat.{ℕ}
 use mathlib.Core.Bool.{Bool, cond}
 use mathlib.Core.List.{List, [], _∷_}

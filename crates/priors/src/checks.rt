@@ -1,6 +1,6 @@
 // The rules for prior records, numbers 3 to 7 and 22, each over all records before the next. Links and counts are tested in every record,
-// reached or not; length and order along each chain that starts at a node. The work is every node record six times, every child record
-// twice, and twice at most 64 records for each node.
+// reached or not; length and order along each chain that starts at a node. The work is every node record five times, every child record
+// twice, and twice at most 64 records for each node; and what 22 takes in the layer below the floor (layers.rt).
 ghost use mathlib.Core.Path.{_≡_};
 ghost use mathlib.Core.Bool.{true};
 ghost use Prim.Native.Nat.{_+_, _*_, _≤_};

@@ -1,19 +1,19 @@
 // Number 22: no two node records in the layer below the floor have one point. Records are told apart by slots, twelve bits made of the
-// point: each record is compared only with the earlier ones of its slot, which links join from the last one back. So the work is one
-// pass, but where points were chosen to meet in few slots; slots and links are 16,384 bytes of stack.
+// point: each record is compared only with the earlier ones of its slot, which links join from the last one back. So the work is about
+// one pass over them, unless many points meet in few slots; slots and links are 16,384 bytes of stack.
 ghost use mathlib.Core.Path.{_≡_};
 ghost use mathlib.Core.Bool.{true};
 ghost use Prim.Native.Nat.{_+_, _*_, _≤_};
 ghost use lib.ListN.{length};
 ghost use Rattle.priors.specs.Limits.{recordSize, maxNodes};
-ghost use Rattle.priors.specs.Priors.{records, recordCount, ascends, clash, clearBefore, pointsDiffer};
+ghost use Rattle.priors.specs.Priors.{records, recordCount, ascends, onePoint, clearBefore, pointsDiffer};
 ghost use Rattle.priors.specs.Layer.{slotOf, Latest, Linked};
 use crate::records::RECORD_SIZE;
 use crate::records::record_at;
 
 // Both ranks are in the layer and have one point.
-fn clash(layer: u32, a: u64, b: u64) -> bool
-    ensures { λ r. ⌜ r ≡ clash layer a b ⌝ }
+fn one_point(layer: u32, a: u64, b: u64) -> bool
+    ensures { λ r. ⌜ r ≡ onePoint layer a b ⌝ }
 {
     if layer as u64 <= a / 4294967296 {
         return false;
@@ -31,7 +31,7 @@ fn wide(place: u16) -> usize
     place as usize
 }
 
-// The record i clashes with none before it: those with its slot are looked at, along their links from the last one on.
+// The record i has one point with none before it: those with its slot are looked at, along their links from the last one on.
 fn clear_along(nodes: &[u8], layer: u32, i: usize, head: u16, links: &[u16; 4096]) -> bool
     requires { ⌜ recordSize * i + 16 ≤ length (now nodes) ⌝ }
     requires { ⌜ recordCount (now nodes) ≤ maxNodes ⌝ }
@@ -42,7 +42,7 @@ fn clear_along(nodes: &[u8], layer: u32, i: usize, head: u16, links: &[u16; 4096
     let own = record_at(nodes, i).rank;
     let mut at = wide(head);
     while at != 0 {
-        if clash(layer, own, record_at(nodes, at - 1).rank) {
+        if one_point(layer, own, record_at(nodes, at - 1).rank) {
             return false;
         }
         at = wide(links[at - 1]);

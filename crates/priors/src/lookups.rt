@@ -25,8 +25,8 @@ pub enum ChildFound {
     NoChild,
 }
 
-// The node record that a rank is looked up by which none has exactly: in the layer the one with its point, group by group of one scale,
-// in each the place of the one address with that scale and the point, then the first place of the next scale.
+// What a look-up finds where no record has this rank: in the layer the record with its point. It goes group by group of one scale, in
+// each to the place of the one address with that scale and the point, and then to the first place of the next scale.
 fn find_by_point(nodes: &[u8], layer: u32, rank: u64) -> NodeFound
     requires { ⌜ ascends (records (now nodes)) ≡ true ⌝ }
     requires { ⌜ pointsDiffer (now nodes) layer ≡ true ⌝ }
@@ -58,7 +58,7 @@ fn find_by_point(nodes: &[u8], layer: u32, rank: u64) -> NodeFound
     NodeFound::NoNode
 }
 
-// The node record that this rank is looked up by: the one with this exact address, or else in the layer the one with its point.
+// The node record that a look-up of this rank finds: the one with this exact address, or else in the layer the one with its point.
 pub fn find_node(nodes: &[u8], layer: u32, rank: u64) -> NodeFound
     requires { ⌜ ascends (records (now nodes)) ≡ true ⌝ }
     requires { ⌜ pointsDiffer (now nodes) layer ≡ true ⌝ }

@@ -7,7 +7,7 @@ ghost use Rattle.priors.specs.Layer.{NoneBelow, FirstFrom};
 use crate::records::RECORD_SIZE;
 use crate::records::record_at;
 
-// The first record from `from` on whose rank is not below this one, where none from `to` on is below it, by halving.
+// The place of the first record from `from` on whose rank is not below this one, or the end; none from `to` on is below it. By halving.
 pub fn halve(nodes: &[u8], from: usize, to: usize, rank: u64) -> usize
     requires { ⌜ ascends (records (now nodes)) ≡ true ⌝ }
     requires { ⌜ from ≤ to ⌝ }

@@ -41,6 +41,9 @@ after-bytes-requires-2 c κs = search needs
 bytes-at-requires-2 : tie.Need-bytes-at-requires-2
 bytes-at-requires-2 c κs = search needs
 
+floor-at-requires : tie.Need-floor-at-requires
+floor-at-requires c κs = search needs
+
 slice-relend-prefix-all-node-kl : tie.Need-slice-relend-prefix-all-node-kl
 slice-relend-prefix-all-node-kl c = search needs
 
@@ -90,6 +93,7 @@ all-cut-spec =
     bytes-at-requires
     after-bytes-requires-2
     bytes-at-requires-2
+    floor-at-requires
     slice-relend-prefix-all-node-kl
     slice-aggregate-all-node-kl
     slice-relend-prefix-all-node-kl-2

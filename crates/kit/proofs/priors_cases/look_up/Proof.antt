@@ -9,7 +9,8 @@ use Rattle.kit.proofs.priors_cases.look_up.Tie as tie
 find-node-requires : tie.Need-find-node-requires
 find-node-requires c κs =
     let start = c .before .before in
-    accepted (start .args .nodes .now) (start .args .children .now) (start .pre) .ordered
+    let ok = accepted (start .args .nodes .now) (start .args .children .now) (start .args .layer) (start .pre) in
+    (ok .ordered, ok .apart)
 
 enum-told : tie.Need-enum-told
 enum-told c = search needs
@@ -23,9 +24,10 @@ find-child-requires c κs =
     let start = found .before .before .before in
     let nodes = start .args .nodes .now in
     let children = start .args .children .now in
-    let ok = accepted nodes children (start .pre) in
+    let layer = start .args .layer in
+    let ok = accepted nodes children layer (start .pre) in
     let is = sym (found .find-node .ensures) ∙ ap nodeFound (c .before .r .given .1) in
-    let chain = found-fits nodes children ok (start .args .node) _ is in
+    let chain = found-fits nodes children layer ok (start .args .node) _ is in
     (chain .link-fits, (ok .rising, chain .ascending))
 
 enum-told-2 : tie.Need-enum-told-2

@@ -5,10 +5,10 @@ use Rattle.kit.proofs.priors_cases.same_lookups.Statement.{statement}
 use Rattle.kit.proofs.priors_cases.same_lookups.Tie as tie
 
 abbrev Inv-loop : tie.InvT-loop
-Inv-loop tape at end nodes children n next₀ i₀ next i = Unit {0}
+Inv-loop tape at end nodes children layer n next₀ i₀ next i = Unit {0}
 
 abbrev μ-loop : tie.MeasureT-loop
-μ-loop tape at end nodes children n next₀ i₀ next i = n - i
+μ-loop tape at end nodes children layer n next₀ i₀ next i = n - i
 
 word-requires : tie.Need-word-requires Inv-loop μ-loop
 word-requires c κs = search needs

@@ -17,6 +17,15 @@ bytes-at-requires-2 c κs = search needs
 after-bytes-requires-2 : tie.Need-after-bytes-requires-2
 after-bytes-requires-2 c κs = search needs
 
+scale-at-requires : tie.Need-scale-at-requires
+scale-at-requires c κs = search needs
+
+layer-of-requires : tie.Need-layer-of-requires
+layer-of-requires c κs = search needs
+
+forward-requires : tie.Need-forward-requires
+forward-requires c κs = search needs
+
 check-priors-requires : tie.Need-check-priors-requires
 check-priors-requires c κs = search needs
 
@@ -29,14 +38,14 @@ word-requires c κs = search needs
 number-requires : tie.Need-number-requires
 number-requires c κs = search needs
 
-forward-requires : tie.Need-forward-requires
-forward-requires c κs = search needs
+forward-requires-2 : tie.Need-forward-requires-2
+forward-requires-2 c κs = search needs
 
 word-requires-2 : tie.Need-word-requires-2
 word-requires-2 c κs = search needs
 
-forward-requires-2 : tie.Need-forward-requires-2
-forward-requires-2 c κs = search needs
+forward-requires-3 : tie.Need-forward-requires-3
+forward-requires-3 c κs = search needs
 
 enum-told : tie.Need-enum-told
 enum-told c = search needs
@@ -47,8 +56,8 @@ word-requires-3 c κs = search needs
 returns : tie.Need-returns
 returns c = search needs
 
-forward-requires-3 : tie.Need-forward-requires-3
-forward-requires-3 c κs = search needs
+forward-requires-4 : tie.Need-forward-requires-4
+forward-requires-4 c κs = search needs
 
 same-lookups-requires : tie.Need-same-lookups-requires
 same-lookups-requires c κs =
@@ -72,17 +81,20 @@ same-priors-spec =
     after-bytes-requires
     bytes-at-requires-2
     after-bytes-requires-2
+    scale-at-requires
+    layer-of-requires
+    forward-requires
     check-priors-requires
     enum-known-r
     word-requires
     number-requires
-    forward-requires
-    word-requires-2
     forward-requires-2
+    word-requires-2
+    forward-requires-3
     enum-told
     word-requires-3
     returns
-    forward-requires-3
+    forward-requires-4
     same-lookups-requires
     returns-2
     returns-3

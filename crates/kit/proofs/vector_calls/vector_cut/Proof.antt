@@ -53,6 +53,9 @@ after-bytes-requires-2 c κs = search needs
 bytes-at-requires-2 : tie.Need-bytes-at-requires-2
 bytes-at-requires-2 c κs = search needs
 
+floor-at-requires : tie.Need-floor-at-requires
+floor-at-requires c κs = search needs
+
 slice-relend-prefix-prob-vector : tie.Need-slice-relend-prefix-prob-vector
 slice-relend-prefix-prob-vector c = search needs
 
@@ -106,6 +109,7 @@ vector-cut-spec =
     bytes-at-requires
     after-bytes-requires-2
     bytes-at-requires-2
+    floor-at-requires
     slice-relend-prefix-prob-vector
     slice-aggregate-prob-vector
     slice-relend-prefix-prob-vector-2

@@ -1,10 +1,10 @@
--- From the last record with the slot of i back along the links: none passed clashes.
+-- From the last record with the slot of i back along the links: none passed point-holds.
 use mathlib.Core.Path.{_≡_, refl, sym, ap, ap₂, _∙_}
 use native.Mathlib.Omega.{arith}
 use Prim.Native.Nat.{ℕ, suc, _-_, _≤_, _<_}
 use lib.ListN.{getD}
 use Rattle.priors.specs.declared.records.Record.{Record}
-use Rattle.priors.specs.Priors.{recordAt, recordCount, clash, clearBefore}
+use Rattle.priors.specs.Priors.{recordAt, recordCount, onePoint, clearBefore}
 use Rattle.priors.specs.Layer.{slotOf, Latest}
 use Rattle.priors.proofs.SlotLaws.{ClearFrom, clear-last, clear-on, clear-all, clear-fails}
 use borrow.Author.Needs.{needs}
@@ -37,8 +37,8 @@ sub-record-at c = search needs
 record-at-requires-2 : tie.Need-record-at-requires-2 Inv-loop μ-loop
 record-at-requires-2 c κs = search needs
 
-clash-requires : tie.Need-clash-requires Inv-loop μ-loop
-clash-requires c κs = search needs
+one-point-requires : tie.Need-one-point-requires Inv-loop μ-loop
+one-point-requires c κs = search needs
 
 returns : tie.Need-returns Inv-loop μ-loop
 returns c =
@@ -47,8 +47,8 @@ returns c =
     let i = c .before .before .before .before .before .before .before .before .args .i in
     let at = c .before .before .before .before .loop .at in
     let k = at - 1 in
-    let met : c .before .clash .result ≡ clash layer (recordAt nodes i .rank) (recordAt nodes k .rank) =
-    c .before .clash .ensures ∙ ap₂ (clash layer) (c .before .before .before .before .loop .inv .1) (ap (λ (r : Record). r .rank) (c .before .before .record-at2 .ensures)) in
+    let met : c .before .one-point .result ≡ onePoint layer (recordAt nodes i .rank) (recordAt nodes k .rank) =
+    c .before .one-point .ensures ∙ ap₂ (onePoint layer) (c .before .before .before .before .loop .inv .1) (ap (λ (r : Record). r .rank) (c .before .before .record-at2 .ensures)) in
     sym (clear-fails nodes layer i k (omega arith) (sym met ∙ c .if1 .taken))
 
 sub-wide : tie.Need-sub-wide Inv-loop μ-loop
@@ -80,8 +80,8 @@ loop-again c =
     let i = c .before .before .before .before .before .before .before .before .before .before .args .i in
     let at = c .before .before .before .before .before .before .loop .at in
     let k = at - 1 in
-    let met : c .before .before .before .clash .result ≡ clash layer (recordAt nodes i .rank) (recordAt nodes k .rank) =
-    c .before .before .before .clash .ensures ∙ ap₂ (clash layer) (c .before .before .before .before .before .before .loop .inv .1) (ap (λ (r : Record). r .rank) (c .before .before .before .before .record-at2 .ensures)) in
+    let met : c .before .before .before .one-point .result ≡ onePoint layer (recordAt nodes i .rank) (recordAt nodes k .rank) =
+    c .before .before .before .one-point .ensures ∙ ap₂ (onePoint layer) (c .before .before .before .before .before .before .loop .inv .1) (ap (λ (r : Record). r .rank) (c .before .before .before .before .record-at2 .ensures)) in
     let latest : Latest nodes k (slotOf nodes k) (c .wide2 .result) = rw (c .wide2 .ensures) (c .before .before .before .before .before .before .before .before .before .before .pre .1 .1 .1 k (omega arith)) in
     let same : slotOf nodes k ≡ slotOf nodes i = c .before .before .before .before .before .before .loop .inv .3 (omega arith) in
     (omega (arith, latest .0), c .before .before .before .before .before .before .loop .inv .1, clear-on nodes layer i at k (c .wide2 .result) (omega arith) (c .before .before .before .before .before .before .loop .inv .2) (sym met ∙ c .before .before .if1 .left) same latest, λ l. latest .2 l ∙ same)
@@ -105,7 +105,7 @@ clear-along-spec =
     loop-holds
     sub-record-at
     record-at-requires-2
-    clash-requires
+    one-point-requires
     returns
     sub-wide
     mul-wide

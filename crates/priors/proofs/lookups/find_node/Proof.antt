@@ -3,7 +3,7 @@ use native.Mathlib.Omega.{arith}
 use mathlib.Core.Option.{some}
 use Rattle.priors.specs.declared.records.Record.{Record}
 use Rattle.priors.specs.Priors.{recordAt}
-use Rattle.priors.proofs.LayerLaws.{exact-answers, found-one, none-there}
+use Rattle.priors.proofs.LayerLaws.{exact-found, found-one, none-there}
 use borrow.Author.Needs.{needs}
 use Rattle.priors.proofs.lookups.find_node.Statement.{statement}
 use Rattle.priors.proofs.lookups.find_node.Tie as tie
@@ -31,7 +31,7 @@ returns-2 c =
     let found : c .before .before .record-at .result ≡ recordAt nodes at = c .before .before .record-at .ensures in
     ap some found
     ∙ sym (found-one nodes (start .args .layer) (start .args .rank) (start .pre .0) (start .pre .1) at (omega (arith, c .before .before .before .before .halve .ensures .1))
-    (exact-answers (start .args .layer) (start .args .rank) (recordAt nodes at .rank) (omega (arith, ap (λ (r : Record). r .rank) found))))
+    (exact-found (start .args .layer) (start .args .rank) (recordAt nodes at .rank) (omega (arith, ap (λ (r : Record). r .rank) found))))
 
 find-by-point-requires-2 : tie.Need-find-by-point-requires-2
 find-by-point-requires-2 c κs =
