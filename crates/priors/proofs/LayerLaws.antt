@@ -18,7 +18,7 @@ use borrow.Author.Tests.{ltb-true, lt-ltb, le-ltb, eqb-true, eq-eqb}
 use Rattle.priors.specs.declared.records.Record.{Record}
 use Rattle.priors.specs.Address.{rank, rankOf, lift}
 use Rattle.priors.specs.Priors.{recordAt, recordCount, records, ascends, layerOf, inLayer, pointOf, onePoint, foundBy, findRecord, clearBefore, pointsDiffer}
-use Rattle.priors.specs.Layer.{floorOf, FirstFrom, Absent}
+use Rattle.priors.specs.Layer.{floorOf, FirstFrom, Absent, Nowhere, FoundAt}
 use Rattle.priors.proofs.Tests.{split, three, both}
 use Rattle.priors.proofs.Ranks.{lift-lt, lift-back, lift-signed}
 use Rattle.priors.proofs.BelowLaws.{all-at}
@@ -143,15 +143,19 @@ module _ (s : List ℕ) (layer wanted : ℕ) where
       ∙ ap some (getD-records s i l)
 
   -- where none fits, none is found
-  pub found-no : ((j : ℕ) → j < recordCount s → foundBy layer wanted (recordAt s j .rank) ≡ true → ⊥) → findRecord layer wanted (records s) ≡ none
+  pub found-no : Nowhere s layer wanted → findRecord layer wanted (records s) ≡ none
   found-no h =
       found-nowhere layer wanted (records s) (λ j m.
       let l : j < recordCount s = omega (arith, length-records s) in
       same-answer j l ∙ no-answer _ (h j l))
 
   -- past the layer only the exact address fits
-  pub none-exact : layer ≤ wanted / 2 ^ 32 → Absent s wanted → findRecord layer wanted (records s) ≡ none
-  none-exact high absent = found-no (λ j l t. absent j l (eqb-true (recordAt s j .rank) wanted (sym (found-high layer wanted (recordAt s j .rank) high) ∙ t)))
+  pub none-exact : layer ≤ wanted / 2 ^ 32 → Absent s wanted → Nowhere s layer wanted
+  none-exact high absent j l t = absent j l (eqb-true (recordAt s j .rank) wanted (sym (found-high layer wanted (recordAt s j .rank) high) ∙ t))
+
+-- the end tells it
+pub none-found : (s : List ℕ) (layer wanted : ℕ) → Nowhere s layer wanted → FoundAt s layer wanted (recordCount s)
+none-found s layer wanted h = (omega arith, (λ l. absurd (omega arith)), λ e. h)
 
 -- where the place of a rank has another, no record has it
 pub none-there : (s : List ℕ) (k at : ℕ) → ascends (records s) ≡ true → FirstFrom s 0 k at → (at < recordCount s → recordAt s at .rank ≡ k → ⊥) → Absent s k
@@ -192,13 +196,12 @@ group-up own layer l m = omega arith
 
 module _ (s : List ℕ) (layer wanted : ℕ) (up : ascends (records s) ≡ true) (low : wanted / 2 ^ 32 < layer) where
   -- where none before a place has the point and none from it on, none is found
-  pub none-left : (start : ℕ) → Passed s layer wanted start → ((j : ℕ) → start ≤ j → j < recordCount s → recordAt s j .rank / 2 ^ 32 < layer → pointOf (recordAt s j .rank) ≡ pointOf wanted → ⊥) → findRecord layer wanted (records s) ≡ none
-  none-left start p q =
-      found-no s layer wanted (λ j l t.
+  pub none-left : (start : ℕ) → Passed s layer wanted start → ((j : ℕ) → start ≤ j → j < recordCount s → recordAt s j .rank / 2 ^ 32 < layer → pointOf (recordAt s j .rank) ≡ pointOf wanted → ⊥) → Nowhere s layer wanted
+  none-left start p q j l t =
       let a = point-parts layer wanted (recordAt s j .rank) (sym (found-low layer wanted (recordAt s j .rank) low) ∙ t) in
-      ⊎-elim (λ b. p j b (a .1) (sym (a .2))) (λ b. q j b l (a .1) (sym (a .2))) (split j start))
+      ⊎-elim (λ b. p j b (a .1) (sym (a .2))) (λ b. q j b l (a .1) (sym (a .2))) (split j start)
 
-  pub all-high : (start : ℕ) → start < recordCount s → Passed s layer wanted start → layer ≤ recordAt s start .rank / 2 ^ 32 → findRecord layer wanted (records s) ≡ none
+  pub all-high : (start : ℕ) → start < recordCount s → Passed s layer wanted start → layer ≤ recordAt s start .rank / 2 ^ 32 → Nowhere s layer wanted
   all-high start l p h = none-left start p (λ j b m t e. omega (arith, not-below s up start j b m))
 
   module _ (start own at : ℕ) (is : own ≡ recordAt s start .rank) (first : FirstFrom s start (keyIn own wanted) at) where
@@ -212,7 +215,7 @@ module _ (s : List ℕ) (layer wanted : ℕ) (up : ascends (records s) ≡ true)
         (split j at)
 
     -- the key is past all records
-    pub past-all : Passed s layer wanted start → at ≡ recordCount s → findRecord layer wanted (records s) ≡ none
+    pub past-all : Passed s layer wanted start → at ≡ recordCount s → Nowhere s layer wanted
     past-all p e =
         none-left start p (λ j b m t q.
         group-passed (λ l. absurd (omega arith)) j b m (omega (arith, first .2 j b (omega arith), key-in-group own wanted)) q)
@@ -233,11 +236,10 @@ module _ (s : List ℕ) (layer wanted : ℕ) (up : ascends (records s) ≡ true)
           (split j start)
 
   -- the record at the key's place is the one
-  pub found-key : pointsDiffer s layer ≡ true → (own at : ℕ) → own / 2 ^ 32 < layer → at < recordCount s → recordAt s at .rank ≡ keyIn own wanted → findRecord layer wanted (records s) ≡ some (recordAt s at)
-  found-key differ own at l m e =
+  pub found-key : (own at : ℕ) → own / 2 ^ 32 < layer → recordAt s at .rank ≡ keyIn own wanted → foundBy layer wanted (recordAt s at .rank) ≡ true
+  found-key own at l e =
       let r = recordAt s at .rank in
-      found-one s layer wanted up differ at m
-      (found-low layer wanted r low ∙ point-holds layer wanted r low (omega (arith, e, key-low own wanted)) (sym (ap pointOf e ∙ key-point own wanted)))
+      found-low layer wanted r low ∙ point-holds layer wanted r low (omega (arith, e, key-low own wanted)) (sym (ap pointOf e ∙ key-point own wanted))
 
 -- ---- a place by steps
 

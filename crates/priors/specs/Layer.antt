@@ -1,13 +1,14 @@
 -- A layer's floor, what a search through node records shows, and the slots and links by which 22 is tested. Assumes nothing.
 use Prim.Native.Nat.{ℕ, _-_, _*_, _/_, _%_, _≤_, _<_}
 use mathlib.Core.Path.{_≡_}
+use mathlib.Core.Bool.{true}
 use mathlib.Core.List.{List}
 use lib.IntN.{ℤ}
 use lib.ListN.{getD}
 use mir.Syntax.{w32}
 use mir.Val.{toZ}
 use Rattle.priors.specs.Address.{lift}
-use Rattle.priors.specs.Priors.{recordAt, recordCount, pointOf}
+use Rattle.priors.specs.Priors.{recordAt, recordCount, pointOf, foundBy}
 
 -- the floor below which this many scales lie
 abbrev pub floorOf : ℕ → ℤ
@@ -24,6 +25,14 @@ FirstFrom s from k r = (from ≤ r) × (r ≤ recordCount s) × ((j : ℕ) → f
 -- no record has the rank k
 abbrev pub Absent : List ℕ → ℕ → Type 0
 Absent s k = (j : ℕ) → j < recordCount s → recordAt s j .rank ≡ k → ⊥
+
+-- a look-up of k finds no record
+abbrev pub Nowhere : List ℕ → ℕ → ℕ → Type 0
+Nowhere s layer k = (j : ℕ) → j < recordCount s → foundBy layer k (recordAt s j .rank) ≡ true → ⊥
+
+-- r is the place of a record that a look-up of k finds, or the end where it finds none
+abbrev pub FoundAt : List ℕ → ℕ → ℕ → ℕ → Type 0
+FoundAt s layer k r = (r ≤ recordCount s) × (r < recordCount s → foundBy layer k (recordAt s r .rank) ≡ true) × (r ≡ recordCount s → Nowhere s layer k)
 
 -- the slot of a rank, by its point alone: twelve bits of a product, which spreads points with most common steps
 abbrev pub slot : ℕ → ℕ

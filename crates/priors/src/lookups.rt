@@ -7,7 +7,7 @@ ghost use lib.ListN.{length};
 ghost use Rattle.priors.specs.Limits.{maxChain};
 ghost use Rattle.priors.specs.Rows.{countOf};
 ghost use Rattle.priors.specs.Priors.{records, recordCount, ascends, pointsDiffer, findRecord, chainOf, childrenOf, everyChild, nextLinkFits, priorOfNode, total};
-ghost use Rattle.priors.specs.Layer.{Absent};
+ghost use Rattle.priors.specs.Layer.{Absent, FoundAt};
 ghost use Rattle.priors.specs.Lookups.{nodeFound, childFound};
 use crate::places::first_from;
 use crate::places::halve;
@@ -26,54 +26,65 @@ pub enum ChildFound {
 }
 
 // What a look-up finds where no record has this rank: in the layer the record with its point. It goes group by group of one scale, in
-// each to the place of the one address with that scale and the point, and then to the first place of the next scale.
-fn find_by_point(nodes: &[u8], layer: u32, rank: u64) -> NodeFound
+// each to the place of the one address with that scale and the point, and then to the first place of the next scale. The end where
+// there is none.
+fn place_by_point(nodes: &[u8], layer: u32, rank: u64) -> usize
     requires { ⌜ ascends (records (now nodes)) ≡ true ⌝ }
-    requires { ⌜ pointsDiffer (now nodes) layer ≡ true ⌝ }
     requires { ⌜ Absent (now nodes) rank ⌝ }
-    ensures { λ r. ⌜ nodeFound r ≡ findRecord layer rank (records (now (nodes .entry))) ⌝ }
+    ensures { λ r. ⌜ FoundAt (now (nodes .entry)) layer rank r ⌝ }
 {
-    if layer as u64 <= rank / 4294967296 {
-        return NodeFound::NoNode;
-    }
     let n = nodes.len() / RECORD_SIZE;
+    if layer as u64 <= rank / 4294967296 {
+        return n;
+    }
     let mut start = 0;
     while start < n {
         let own = record_at(nodes, start).rank;
         if layer as u64 <= own / 4294967296 {
-            return NodeFound::NoNode;
+            return n;
         }
         let group = own / 4294967296 * 4294967296;
         let key = group + rank % 4294967296;
         let at = first_from(nodes, start, key);
         if at == n {
-            return NodeFound::NoNode;
+            return n;
         }
-        let found = record_at(nodes, at);
-        if found.rank == key {
-            return NodeFound::Node(found);
+        if record_at(nodes, at).rank == key {
+            return at;
         }
         start = first_from(nodes, at, group + 4294967296);
     }
-    NodeFound::NoNode
+    n
 }
 
-// The node record that a look-up of this rank finds: the one with this exact address, or else in the layer the one with its point.
+// The place of the record that a look-up of this rank finds: the one with this exact address, or else in the layer the one with its
+// point.
+fn place_of(nodes: &[u8], layer: u32, rank: u64) -> usize
+    requires { ⌜ ascends (records (now nodes)) ≡ true ⌝ }
+    ensures { λ r. ⌜ FoundAt (now (nodes .entry)) layer rank r ⌝ }
+{
+    let n = nodes.len() / RECORD_SIZE;
+    let at = halve(nodes, 0, n, rank);
+    if at == n {
+        return place_by_point(nodes, layer, rank);
+    }
+    if record_at(nodes, at).rank == rank {
+        return at;
+    }
+    place_by_point(nodes, layer, rank)
+}
+
+// The node record that a look-up of this rank finds.
 pub fn find_node(nodes: &[u8], layer: u32, rank: u64) -> NodeFound
     requires { ⌜ ascends (records (now nodes)) ≡ true ⌝ }
     requires { ⌜ pointsDiffer (now nodes) layer ≡ true ⌝ }
     ensures { λ r. ⌜ nodeFound r ≡ findRecord layer rank (records (now (nodes .entry))) ⌝ }
 {
-    let n = nodes.len() / RECORD_SIZE;
-    let at = halve(nodes, 0, n, rank);
-    if at == n {
-        return find_by_point(nodes, layer, rank);
+    let at = place_of(nodes, layer, rank);
+    if at == nodes.len() / RECORD_SIZE {
+        return NodeFound::NoNode;
     }
-    let found = record_at(nodes, at);
-    if found.rank == rank {
-        return NodeFound::Node(found);
-    }
-    find_by_point(nodes, layer, rank)
+    NodeFound::Node(record_at(nodes, at))
 }
 
 // The count of the child with this address in the chain that `first` starts.

@@ -2,13 +2,12 @@
 use mathlib.Core.Path.{_≡_, sym, ap, _∙_}
 use native.Mathlib.Omega.{arith}
 use Prim.Native.Nat.{ℕ, _-_, _≤_, _<_}
-use mathlib.Core.Option.{some}
 use Rattle.priors.specs.declared.records.Record.{Record}
 use Rattle.priors.specs.Priors.{recordAt, recordCount}
-use Rattle.priors.proofs.LayerLaws.{Passed, none-exact, none-left, all-high, past-all, group-ends, passed-on, found-key, group-up}
+use Rattle.priors.proofs.LayerLaws.{Passed, none-found, none-exact, none-left, all-high, past-all, group-ends, passed-on, found-key, group-up}
 use borrow.Author.Needs.{needs}
-use Rattle.priors.proofs.lookups.find_by_point.Statement.{statement}
-use Rattle.priors.proofs.lookups.find_by_point.Tie as tie
+use Rattle.priors.proofs.lookups.place_by_point.Statement.{statement}
+use Rattle.priors.proofs.lookups.place_by_point.Tie as tie
 
 abbrev Inv-loop : tie.InvT-loop
 Inv-loop nodes layer rank n start₀ start = (start ≤ n) × Passed nodes layer rank start
@@ -18,7 +17,8 @@ abbrev μ-loop : tie.MeasureT-loop
 
 returns : tie.Need-returns Inv-loop μ-loop
 returns c =
-    sym (none-exact (c .before .before .args .nodes .now) (c .before .before .args .layer) (c .before .before .args .rank) (omega arith) (c .before .before .pre .1 .1))
+    let start = c .before .before in
+    none-found (start .args .nodes .now) (start .args .layer) (start .args .rank) (none-exact (start .args .nodes .now) (start .args .layer) (start .args .rank) (omega arith) (start .pre .1))
 
 loop-holds : tie.Need-loop-holds Inv-loop μ-loop
 loop-holds c = (omega arith, λ j l. absurd (omega arith))
@@ -33,7 +33,7 @@ returns-2 c =
     let rank = c .before .before .before .before .before .before .args .rank in
     let start = c .before .before .before .loop .start in
     let is : c .before .record-at .result ≡ recordAt nodes start = c .before .record-at .ensures in
-    sym (all-high nodes layer rank (c .before .before .before .before .before .before .pre .0) (omega arith) start (omega arith) (c .before .before .before .loop .inv .1) (omega (arith, ap (λ (r : Record). r .rank) is)))
+    none-found nodes layer rank (all-high nodes layer rank (c .before .before .before .before .before .before .pre .0) (omega arith) start (omega arith) (c .before .before .before .loop .inv .1) (omega (arith, ap (λ (r : Record). r .rank) is)))
 
 mul-group : tie.Need-mul-group Inv-loop μ-loop
 mul-group c = search needs
@@ -55,7 +55,7 @@ returns-3 c =
     let own = c .before .before .before .record-at .result .rank in
     let at = c .before .first-from .result in
     let is : own ≡ recordAt nodes start .rank = ap (λ (r : Record). r .rank) (c .before .before .before .record-at .ensures) in
-    sym (past-all nodes layer rank (c .before .before .before .before .before .before .before .before .pre .0) (omega arith) start own at is (c .before .first-from .ensures) (c .before .before .before .before .before .loop .inv .1) (omega arith))
+    none-found nodes layer rank (past-all nodes layer rank (c .before .before .before .before .before .before .before .before .pre .0) (omega arith) start own at is (c .before .first-from .ensures) (c .before .before .before .before .before .loop .inv .1) (omega arith))
 
 record-at-requires-2 : tie.Need-record-at-requires-2 Inv-loop μ-loop
 record-at-requires-2 c κs = search needs
@@ -68,9 +68,11 @@ returns-4 c =
     let start = c .before .before .before .before .before .before .before .before .loop .start in
     let own = c .before .before .before .before .before .before .record-at .result .rank in
     let at = c .before .before .before .before .first-from .result in
-    let found : c .before .before .record-at2 .result ≡ recordAt nodes at = c .before .before .record-at2 .ensures in
-    ap some found
-    ∙ sym (found-key nodes layer rank (c .before .before .before .before .before .before .before .before .before .before .before .pre .0) (omega arith) (c .before .before .before .before .before .before .before .before .before .before .before .pre .1 .0) own at (omega arith) (omega (arith, c .before .before .before .before .first-from .ensures)) (omega (arith, ap (λ (r : Record). r .rank) found)))
+    let found : c .before .before .record-at2 .result ≡ recordAt nodes at = c .before .before .record-at2 .ensures in (
+      omega (arith, c .before .before .before .before .first-from .ensures),
+      (λ l. found-key nodes layer rank (c .before .before .before .before .before .before .before .before .before .before .before .pre .0) (omega arith) own at (omega arith) (omega (arith, ap (λ (r : Record). r .rank) found))),
+      λ e. absurd (omega arith),
+    )
 
 add-first-from : tie.Need-add-first-from Inv-loop μ-loop
 add-first-from c =
@@ -106,10 +108,10 @@ loop-again c =
 
 returns-5 : tie.Need-returns-5 Inv-loop μ-loop
 returns-5 c =
-    sym (none-left (c .before .before .before .before .args .nodes .now) (c .before .before .before .before .args .layer) (c .before .before .before .before .args .rank) (c .before .before .before .before .pre .0) (omega arith) (c .before .loop .start) (c .before .loop .inv .1) (λ j l m. absurd (omega arith)))
+    none-found (c .before .before .before .before .args .nodes .now) (c .before .before .before .before .args .layer) (c .before .before .before .before .args .rank) (none-left (c .before .before .before .before .args .nodes .now) (c .before .before .before .before .args .layer) (c .before .before .before .before .args .rank) (c .before .before .before .before .pre .0) (omega arith) (c .before .loop .start) (c .before .loop .inv .1) (λ j l m. absurd (omega arith)))
 
-pub find-by-point-spec : {M : Type 1} → statement M
-find-by-point-spec =
+pub place-by-point-spec : {M : Type 1} → statement M
+place-by-point-spec =
     tie.close
     (tie.spec
     Inv-loop
