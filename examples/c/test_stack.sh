@@ -43,7 +43,7 @@ for change in '/ teakpool_stats$/d' 's/^[0-9]* teakpool_stats$/ teakpool_stats/'
     sed "$change" "$work/stack" >"$work/changed"
     ! stack_holds include/teakpool.h "$work/changed" >"$work/told" || not_noticed "'$change' in what is measured"
 done
-for change in '/define TEAKPOOL_STACK /d' 's/STACK 17408u/STACK 17000u/' 's/STACK 17408u/STACK u/' '/STACK_WITHOUT_PRIORS 1024u/d' \
+for change in '/define TEAKPOOL_STACK /d' 's/STACK 17408u/STACK 16000u/' 's/STACK 17408u/STACK u/' '/STACK_WITHOUT_PRIORS 1024u/d' \
     's/PRIORS 1024u/PRIORS 400u/' 's/int32_t floor/int32_t lowest/'; do
     sed "$change" include/teakpool.h >"$work/changed"
     ! stack_holds "$work/changed" "$work/stack" >"$work/told" || not_noticed "'$change' in the header"

@@ -14,7 +14,7 @@ use native.Mathlib.Omega.{arith}
 use borrow.Author.Tests.{lt-ltb, le-ltb, eqb-true, eq-eqb, ne-eqb}
 use Rattle.priors.specs.Address.{lift, rank, rankOf}
 use Rattle.priors.specs.Rules.{Rule, rule, firstBroken}
-use Rattle.priors.specs.Priors.{records, layerOf, pointOf, onePoint, foundBy, findRecord, priorOf, priorOfNode, pointsDiffer, recordRules, priorsRefusal}
+use Rattle.priors.specs.Priors.{records, layerOf, pointOf, onePoint, foundBy, findRecord, priorOf, priorOfNode, pointsDiffer, recordRules, recordsRefusal, priorsRefusal}
 use Rattle.priors.specs.Floors.{sameScale, FoundBy, internalIndex, GokosLayers, PriorIsThatFound, SharedPoint, OnePoint, OneFound, LeastFloor, leastFloor, exactRecord}
 use Rattle.priors.specs.declared.records.Record.{Record}
 use Rattle.priors.proofs.Tests.{three, eqb-same}
@@ -137,7 +137,7 @@ pub prior-is : PriorIsThatFound
 unfolding priorOf
 prior-is nodes children layer rank passed =
     let ok = accepted nodes children layer passed in (
-      λ i l e. ap (Option·map (priorOfNode children)) (found-one nodes layer rank (ok .ordered) (ok .apart) i l e),
+      λ i l e. ap (Option·map (priorOfNode children)) (found-one nodes layer rank (ok .records-fit .ordered) (ok .apart) i l e),
       λ h. ap (Option·map (priorOfNode children)) (found-no nodes layer rank h),
     )
 
@@ -147,7 +147,7 @@ shared-point nodes layer = (points-apart nodes layer, points-differ nodes layer)
 pub one-record : OneFound
 one-record nodes children layer rank i j passed l m p q =
     let ok = accepted nodes children layer passed in
-    one-found nodes layer (ok .ordered) (ok .apart) rank i j l m p q
+    one-found nodes layer (ok .records-fit .ordered) (ok .apart) rank i j l m p q
 
 -- ---- the least floor
 
@@ -167,7 +167,7 @@ held [] n b h = rw h
 held (r ∷ rules) n b h = ap (λ (m : ℕ). cond (r .holds) m (r .number)) (held rules n b h)
 
 pub least-floor : LeastFloor
-unfolding priorOf priorsRefusal
+unfolding priorOf recordsRefusal priorsRefusal
 least-floor nodes children rank = (
   ap (λ (layer : ℕ). Option·map (priorOfNode children) (findRecord layer rank (records nodes))) no-scales ∙ ap (Option·map (priorOfNode children)) (exact rank (records nodes)),
   held (recordRules nodes children) 22 (pointsDiffer nodes (layerOf leastFloor)) (ap (pointsDiffer nodes) no-scales ∙ empty-layer nodes),

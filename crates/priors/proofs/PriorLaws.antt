@@ -4,7 +4,7 @@ use mathlib.Core.Path.{_≡_, refl, sym, ap, _∙_}
 use mathlib.Core.Bool.{Bool, true, false, cond}
 use Prim.Native.Nat.{ℕ, zero, suc, _+_, _*_, _%_, _^_, _≤_, _<_}
 use native.Mathlib.Omega.{arith}
-use mathlib.Core.List.{List, [], _∷_, map}
+use mathlib.Core.List.{List, [], _∷_, _++_, map}
 use mathlib.Core.Option.{Option, none, some, Option·map}
 use lib.Dec.{eqb, leb, ltb}
 use lib.ListN.{length, getD}
@@ -12,7 +12,8 @@ use borrow.Author.Tests.{leb-true, ltb-true}
 use Rattle.priors.specs.Limits.{maxChain, maxNodes, maxChildren, recordSize}
 use Rattle.priors.specs.declared.records.Record.{Record}
 use Rattle.priors.specs.Rows.{row, countOf}
-use Rattle.priors.specs.Priors.{recordAt, recordCount, records, ascends, findRecord, chain, chainOf, Counts, countSum, total, priorOf, priorOfNode, wholeRecords, firstLinkFits, nextLinkFits, chainFits, chainAscends, countFits, totalFits, pointsDiffer, foundBy, everyNode, everyChild, priorsRefusal}
+use Rattle.priors.specs.Rules.{Rule, rule, firstBroken}
+use Rattle.priors.specs.Priors.{recordAt, recordCount, records, ascends, findRecord, chain, chainOf, Counts, countSum, total, priorOf, priorOfNode, wholeRecords, firstLinkFits, nextLinkFits, chainFits, chainAscends, countFits, totalFits, pointsDiffer, foundBy, everyNode, everyChild, recordRules, recordsRefusal, priorsRefusal}
 use Rattle.priors.proofs.Ranks.{Bytes, word-lt}
 use Rattle.priors.proofs.BelowLaws.{second-true, all-at}
 use Rattle.priors.proofs.ChainLaws.{next-small}
@@ -23,7 +24,15 @@ unbroken : (b : Bool) (n rest : ℕ) → cond b rest (suc n) ≡ 0 → (b ≡ tr
 unbroken true n rest h = (refl, h)
 unbroken false n rest h = absurd (omega arith)
 
-pub record Accepted (nodes children : List ℕ) (layer : ℕ) : Type 0 where
+-- 3: whole records are not too many
+pub not-too-many : (s : List ℕ) (most : ℕ) → wholeRecords s most ≡ true → recordCount s ≤ most
+unfolding wholeRecords
+not-too-many s most h = leb-true (recordCount s) most (second-true (eqb (length s % recordSize) 0) (leb (recordCount s) most) h)
+
+-- what 3 to 7 leave
+pub record Recorded (nodes children : List ℕ) : Type 0 where
+  pub whole : wholeRecords nodes maxNodes ≡ true
+  pub children-whole : wholeRecords children maxChildren ≡ true
   pub ordered : ascends (records nodes) ≡ true
   pub firsts : everyNode nodes (firstLinkFits nodes children) ≡ true
   pub rising : everyChild children (nextLinkFits children) ≡ true
@@ -31,12 +40,11 @@ pub record Accepted (nodes children : List ℕ) (layer : ℕ) : Type 0 where
   pub ascending : everyNode nodes (chainAscends nodes children) ≡ true
   pub counts : everyChild children (countFits children) ≡ true
   pub totals : everyNode nodes (totalFits nodes children) ≡ true
-  pub apart : pointsDiffer nodes layer ≡ true
 
-module _ (nodes children : List ℕ) (layer : ℕ) where
-  pub accepted : priorsRefusal nodes children layer ≡ 0 → Accepted nodes children layer
-  unfolding priorsRefusal
-  accepted h =
+module _ (nodes children : List ℕ) where
+  pub recorded : recordsRefusal nodes children ≡ 0 → Recorded nodes children
+  unfolding recordsRefusal
+  recorded h =
       let a = unbroken (wholeRecords nodes maxNodes) 2 _ h in
       let b = unbroken (wholeRecords children maxChildren) 2 _ (a .1) in
       let d = unbroken (ascends (records nodes)) 3 _ (b .1) in
@@ -46,13 +54,41 @@ module _ (nodes children : List ℕ) (layer : ℕ) where
       let i = unbroken (everyNode nodes (chainAscends nodes children)) 5 _ (g .1) in
       let j = unbroken (everyChild children (countFits children)) 6 _ (i .1) in
       let k = unbroken (everyNode nodes (totalFits nodes children)) 6 _ (j .1) in
-      let m = unbroken (pointsDiffer nodes layer) 21 _ (k .1) in
-      record { ordered = d .0; firsts = e .0; rising = f .0; lengths = g .0; ascending = i .0; counts = j .0; totals = k .0; apart = m .0 }
+      record { whole = a .0; children-whole = b .0; ordered = d .0; firsts = e .0; rising = f .0; lengths = g .0; ascending = i .0; counts = j .0; totals = k .0 }
 
--- 3: whole records are not too many
-pub not-too-many : (s : List ℕ) (most : ℕ) → wholeRecords s most ≡ true → recordCount s ≤ most
-unfolding wholeRecords
-not-too-many s most h = leb-true (recordCount s) most (second-true (eqb (length s % recordSize) 0) (leb (recordCount s) most) h)
+-- a number of the first rules comes before the last
+first-broken : (rules : List Rule) (last : Rule) (m : ℕ) → firstBroken rules ≡ suc m → firstBroken (rules ++ last ∷ []) ≡ suc m
+first-broken [] last m h = absurd (omega arith)
+first-broken (r ∷ rules) last m h = go (r .holds) h (first-broken rules last m)
+  where
+    go : (b : Bool) → cond b (firstBroken rules) (r .number) ≡ suc m → (firstBroken rules ≡ suc m → firstBroken (rules ++ last ∷ []) ≡ suc m) → cond b (firstBroken (rules ++ last ∷ [])) (r .number) ≡ suc m
+    go true h on = on h
+    go false h on = h
+
+module _ (nodes children : List ℕ) (layer : ℕ) where
+  -- a number of the records is that of the priors
+  pub records-first : (m : ℕ) → recordsRefusal nodes children ≡ suc m → priorsRefusal nodes children layer ≡ suc m
+  unfolding recordsRefusal priorsRefusal
+  records-first m h = first-broken (recordRules nodes children) (rule 22 (pointsDiffer nodes layer)) m h
+
+  -- where they have none, 22 decides
+  pub points-last : Recorded nodes children → priorsRefusal nodes children layer ≡ cond (pointsDiffer nodes layer) 0 22
+  unfolding priorsRefusal
+  points-last ok = rw (ok .whole, ok .children-whole, ok .ordered, ok .firsts, ok .rising, ok .lengths, ok .ascending, ok .counts, ok .totals)
+
+-- what accepted priors have
+pub record Accepted (nodes children : List ℕ) (layer : ℕ) : Type 0 where
+  pub records-fit : Recorded nodes children
+  pub apart : pointsDiffer nodes layer ≡ true
+
+pub accepted : (nodes children : List ℕ) (layer : ℕ) → priorsRefusal nodes children layer ≡ 0 → Accepted nodes children layer
+accepted nodes children layer h = go (recordsRefusal nodes children) refl
+  where
+    go : (n : ℕ) → recordsRefusal nodes children ≡ n → Accepted nodes children layer
+    go zero e =
+        let fit = recorded nodes children e in
+        record { records-fit = fit; apart = unbroken (pointsDiffer nodes layer) 21 0 (sym (points-last nodes children layer fit) ∙ h) .0 }
+    go (suc m) e = absurd (omega (arith, h, records-first nodes children layer m e))
 
 -- ---- a record that is found is one of the list
 
@@ -97,9 +133,9 @@ module _ (nodes children : List ℕ) (layer : ℕ) (ok : Accepted nodes children
   pub found-fits : (k : ℕ) (r : Record) → findRecord layer k (records nodes) ≡ some r → ChainFits children r
   unfolding firstLinkFits chainFits chainAscends
   found-fits k r h = record {
-    link-fits = leb-true (r .link) (recordCount children) (found-keeps nodes (λ n. leb (n .link) (recordCount children)) (ok .firsts) layer k r h);
-    short = leb-true (length (chainOf children (r .link))) maxChain (found-keeps nodes (λ n. leb (length (chainOf children (n .link))) maxChain) (ok .lengths) layer k r h);
-    ascending = found-keeps nodes (λ n. ascends (chainOf children (n .link))) (ok .ascending) layer k r h;
+    link-fits = leb-true (r .link) (recordCount children) (found-keeps nodes (λ n. leb (n .link) (recordCount children)) (ok .records-fit .firsts) layer k r h);
+    short = leb-true (length (chainOf children (r .link))) maxChain (found-keeps nodes (λ n. leb (length (chainOf children (n .link))) maxChain) (ok .records-fit .lengths) layer k r h);
+    ascending = found-keeps nodes (λ n. ascends (chainOf children (n .link))) (ok .records-fit .ascending) layer k r h;
   }
 
   -- the records of a chain keep 7
@@ -108,12 +144,12 @@ module _ (nodes children : List ℕ) (layer : ℕ) (ok : Accepted nodes children
   chain-positive zero link l k c h = let z : _≡_ {A = ℕ} 0 1 = cc in absurd (omega arith)
   chain-positive (suc n) zero l k c h = let z : _≡_ {A = ℕ} 0 1 = cc in absurd (omega arith)
   chain-positive (suc n) (suc i) l k c h =
-      go (eqb (recordAt children i .rank) k) h (chain-positive n (recordAt children i .link) (next-small children (ok .rising) i (omega arith)) k c)
+      go (eqb (recordAt children i .rank) k) h (chain-positive n (recordAt children i .link) (next-small children (ok .records-fit .rising) i (omega arith)) k c)
     where
       go : {rest : Option ℕ} (b : Bool) → cond b (some (recordAt children i .count)) rest ≡ some c → (rest ≡ some c → 0 < c) → 0 < c
       go true h on =
           let e : recordAt children i .count ≡ c = cc in
-          rw e at (ltb-true 0 (recordAt children i .count) (all-at (countFits children) (recordCount children) i (ok .counts) (omega arith)))
+          rw e at (ltb-true 0 (recordAt children i .count) (all-at (countFits children) (recordCount children) i (ok .records-fit .counts) (omega arith)))
       go false h on = on h
 
   pub prior-positive : (k : ℕ) (p : Counts) → priorOf nodes children layer k ≡ some p → Positive p
@@ -126,7 +162,7 @@ module _ (nodes children : List ℕ) (layer : ℕ) (ok : Accepted nodes children
           let is : priorOfNode children r ≡ p = cc in
           rw (← is)
           (record {
-            total-positive = ltb-true 0 (total (priorOfNode children r)) (found-keeps nodes (λ n. ltb 0 (total (priorOfNode children n))) (ok .totals) layer k r e);
+            total-positive = ltb-true 0 (total (priorOfNode children r)) (found-keeps nodes (λ n. ltb 0 (total (priorOfNode children n))) (ok .records-fit .totals) layer k r e);
             count-positive = chain-positive (recordCount children) (r .link) (found-fits k r e .link-fits);
           })
 

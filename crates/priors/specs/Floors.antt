@@ -11,8 +11,7 @@ use lib.Signed.{ltZ}
 use mir.Syntax.{w32}
 use mir.Val.{SFits}
 use Rattle.priors.specs.Address.{rankOf}
-use Rattle.priors.specs.Rules.{firstBroken}
-use Rattle.priors.specs.Priors.{recordAt, recordCount, records, layerOf, onePoint, foundBy, priorOf, priorOfNode, pointsDiffer, recordRules, priorsRefusal}
+use Rattle.priors.specs.Priors.{recordAt, recordCount, records, layerOf, onePoint, foundBy, priorOf, priorOfNode, pointsDiffer, recordsRefusal, priorsRefusal}
 use Rattle.priors.specs.declared.records.Record.{Record}
 
 -- neither scale is below the other
@@ -78,4 +77,4 @@ abbrev pub LeastFloor : Type 0
 LeastFloor =
     (nodes children : List ℕ) (rank : ℕ)
     → (priorOf nodes children (layerOf leastFloor) rank ≡ Option·map (priorOfNode children) (exactRecord rank (records nodes)))
-    × (priorsRefusal nodes children (layerOf leastFloor) ≡ firstBroken (recordRules nodes children))
+    × (priorsRefusal nodes children (layerOf leastFloor) ≡ recordsRefusal nodes children)

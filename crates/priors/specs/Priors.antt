@@ -168,6 +168,9 @@ recordRules nodes children =
     ∷ rule 7 (everyNode nodes (totalFits nodes children))
     ∷ []
 
+unfoldable pub recordsRefusal : (nodes children : List ℕ) → ℕ
+recordsRefusal nodes children = firstBroken (recordRules nodes children)
+
 abbrev pub priorRules : (nodes children : List ℕ) (layer : ℕ) → List Rule
 priorRules nodes children layer = recordRules nodes children ++ rule 22 (pointsDiffer nodes layer) ∷ []
 

@@ -8,7 +8,7 @@ ghost use lib.Dec.{leb, ltb};
 ghost use lib.ListN.{length};
 ghost use Rattle.priors.specs.Limits.{maxChain, recordSize};
 ghost use Rattle.priors.specs.Refusals.{checkedNumber};
-ghost use Rattle.priors.specs.Priors.{records, recordCount, ascends, chainOf, wholeRecords, everyNode, everyChild, firstLinkFits, nextLinkFits, chainFits, chainAscends, countFits, totalFits, priorOfNode, total, priorsRefusal};
+ghost use Rattle.priors.specs.Priors.{records, recordCount, ascends, chainOf, wholeRecords, everyNode, everyChild, firstLinkFits, nextLinkFits, chainFits, chainAscends, countFits, totalFits, priorOfNode, total, recordsRefusal, priorsRefusal};
 use crate::layers::points_differ;
 use crate::records::RECORD_SIZE;
 use crate::records::Record;
@@ -221,9 +221,9 @@ fn totals_fit(nodes: &[u8], children: &[u8]) -> bool
     true
 }
 
-// Numbers 3 to 7 and 22.
-pub fn check_priors(nodes: &[u8], children: &[u8], layer: u32) -> Checked
-    ensures { λ r. ⌜ checkedNumber r ≡ priorsRefusal (now (nodes .entry)) (now (children .entry)) layer ⌝ }
+// Numbers 3 to 7.
+fn check_records(nodes: &[u8], children: &[u8]) -> Checked
+    ensures { λ r. ⌜ checkedNumber r ≡ recordsRefusal (now (nodes .entry)) (now (children .entry)) ⌝ }
 {
     if !whole_records(nodes, MAX_NODES) {
         return Checked::Refused(Refusal::Plain(Reason::PriorSizes));
@@ -252,8 +252,20 @@ pub fn check_priors(nodes: &[u8], children: &[u8], layer: u32) -> Checked
     if !totals_fit(nodes, children) {
         return Checked::Refused(Refusal::Plain(Reason::ZeroPrior));
     }
-    if !points_differ(nodes, layer) {
-        return Checked::Refused(Refusal::Plain(Reason::SharedPoint));
-    }
     Checked::Passed
+}
+
+// Numbers 3 to 7, and then 22.
+pub fn check_priors(nodes: &[u8], children: &[u8], layer: u32) -> Checked
+    ensures { λ r. ⌜ checkedNumber r ≡ priorsRefusal (now (nodes .entry)) (now (children .entry)) layer ⌝ }
+{
+    match check_records(nodes, children) {
+        Checked::Refused(r) => Checked::Refused(r),
+        Checked::Passed => {
+            if points_differ(nodes, layer) {
+                return Checked::Passed;
+            }
+            Checked::Refused(Refusal::Plain(Reason::SharedPoint))
+        }
+    }
 }

@@ -26,7 +26,7 @@ find-node-requires : tie.Need-find-node-requires
 find-node-requires c κs =
     let start = c .before .before .before .before in
     let ok = accepted (start .args .nodes .now) (start .args .children .now) (start .args .layer) (start .pre .1 .1 .1) in
-    (ok .ordered, ok .apart)
+    (ok .records-fit .ordered, ok .apart)
 
 enum-told : tie.Need-enum-told
 enum-told c = search needs
@@ -47,7 +47,7 @@ lacks-child-requires c κs =
     let ok = accepted nodes children layer (start .pre .1 .1 .1) in
     let found = sym (c .before .before .before .find-node .ensures) ∙ ap nodeFound (c .before .node .given .1) in
     let chain = found-fits nodes children layer ok (ranked .rank-at .result) _ found in
-    (search needs, (search needs, (chain .link-fits, (ok .rising, chain .ascending))))
+    (search needs, (search needs, (chain .link-fits, (ok .records-fit .rising, chain .ascending))))
 
 returns : tie.Need-returns
 returns c =
@@ -72,7 +72,7 @@ prior-total-requires c κs =
     let ok = accepted nodes children layer (start .pre .1 .1 .1) in
     let found = sym (c .before .before .before .before .before .find-node .ensures) ∙ ap nodeFound (c .before .before .before .node .given .1) in
     let chain = found-fits nodes children layer ok (ranked .rank-at .result) _ found in
-    (chain .link-fits, (ok .rising, chain .short))
+    (chain .link-fits, (ok .records-fit .rising, chain .short))
 
 count-total-requires : tie.Need-count-total-requires
 count-total-requires c κs = search needs

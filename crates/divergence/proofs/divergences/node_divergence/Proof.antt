@@ -34,7 +34,7 @@ divergence-of-requires c κs =
         (
           chain .link-fits,
           (
-            ok .rising,
+            ok .records-fit .rising,
             (chain .ascending, (has .prior-is, (has .total-is, (has .within, tables-alike (start .args .g .now) (start .args .d .now) (start .pre .1 .1 .1 .1))))),
           ),
         ),

@@ -21,7 +21,7 @@ with-prior-requires : tie.Need-with-prior-requires
 with-prior-requires c κs =
     let start = c .before .before .before .before .before .before .before in
     let ok = accepted (start .args .nodes .now) (start .args .children .now) (start .args .layer) (start .pre .1 .1 .0) in
-    (start .pre .0, (start .pre .1 .0, (ok .ordered, ok .apart)))
+    (start .pre .0, (start .pre .1 .0, (ok .records-fit .ordered, ok .apart)))
 
 returns : tie.Need-returns
 returns c =

@@ -57,7 +57,7 @@ find-node-requires : tie.Need-find-node-requires
 find-node-requires c κs =
     let k = c .before .before .before .before .before .before .before .before .before .before .before .before .before in
     let ok = accepted (k .args .nodes .now) (k .args .children .now) (c .before .before .before .before .before .before .layer-of .result) (sym (c .before .before .before .before .before .check-priors .ensures) ∙ ap checkedNumber (c .before .before .before .enum-told .given .1)) in
-    (ok .ordered, ok .apart)
+    (ok .records-fit .ordered, ok .apart)
 
 enum-known-prior : tie.Need-enum-known-prior
 enum-known-prior c = search needs
@@ -83,7 +83,7 @@ posterior-vector-requires c κs =
     let found : findRecord layer rank (records nodes) ≡ some prior = ap (λ (n : ℕ). findRecord layer n (records nodes)) (sym ranked) ∙ sym (c .before .before .before .before .before .before .find-node .ensures) ∙ ap nodeFound (c .before .before .before .before .prior .given .1) in
     let ok = accepted nodes children layer passed in
     let chain = found-fits nodes children layer ok rank prior found in
-    (chain .link-fits, (ok .rising, (chain .short, form-usable (k .args .t) (k .args .book .now) (k .args .queue .now) good)))
+    (chain .link-fits, (ok .records-fit .rising, (chain .short, form-usable (k .args .t) (k .args .book .now) (k .args .queue .now) good)))
 
 enum-told-2 : tie.Need-enum-told-2
 enum-told-2 c = search needs

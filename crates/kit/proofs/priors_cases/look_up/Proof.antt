@@ -10,7 +10,7 @@ find-node-requires : tie.Need-find-node-requires
 find-node-requires c κs =
     let start = c .before .before in
     let ok = accepted (start .args .nodes .now) (start .args .children .now) (start .args .layer) (start .pre) in
-    (ok .ordered, ok .apart)
+    (ok .records-fit .ordered, ok .apart)
 
 enum-told : tie.Need-enum-told
 enum-told c = search needs
@@ -28,7 +28,7 @@ find-child-requires c κs =
     let ok = accepted nodes children layer (start .pre) in
     let is = sym (found .find-node .ensures) ∙ ap nodeFound (c .before .r .given .1) in
     let chain = found-fits nodes children layer ok (start .args .node) _ is in
-    (chain .link-fits, (ok .rising, chain .ascending))
+    (chain .link-fits, (ok .records-fit .rising, chain .ascending))
 
 enum-told-2 : tie.Need-enum-told-2
 enum-told-2 c = search needs

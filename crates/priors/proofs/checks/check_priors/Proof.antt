@@ -1,213 +1,52 @@
-use mathlib.Core.Path.{_≡_, sym, _∙_}
-use mathlib.Core.Bool.{true, false}
-use borrow.Author.Tests.{not-true, not-false}
-use Rattle.priors.specs.Limits.{maxNodes, maxChildren}
-use Rattle.priors.specs.Priors.{records, ascends, wholeRecords, everyNode, everyChild, firstLinkFits, nextLinkFits, chainFits, chainAscends, countFits, totalFits, pointsDiffer, priorsRefusal}
-use Rattle.priors.proofs.PriorLaws.{not-too-many}
+-- `check_priors` meets its contract: a number of the records comes first, and where there is none 22 decides.
+use mathlib.Core.Path.{_≡_, sym, ap, _∙_}
+use mathlib.Core.Bool.{Bool, cond}
+use Rattle.priors.specs.Refusals.{numberOf, checkedNumber}
+use Rattle.priors.specs.Limits.{maxNodes}
+use Rattle.priors.specs.Priors.{recordsRefusal}
+use Rattle.priors.proofs.RuleLaws.{some-number}
+use Rattle.priors.proofs.PriorLaws.{not-too-many, recorded, records-first, points-last}
 use borrow.Author.Needs.{needs}
 use Rattle.priors.proofs.checks.check_priors.Statement.{statement}
 use Rattle.priors.proofs.checks.check_priors.Tie as tie
 
-whole-records-requires : tie.Need-whole-records-requires
-whole-records-requires c κs = search needs
+check-records-requires : tie.Need-check-records-requires
+check-records-requires c κs = search needs
 
-returns : tie.Need-returns
-unfolding priorsRefusal
-returns c =
-    let nodes = c .before .before .before .before .args .nodes .now in
-    let children = c .before .before .before .before .args .children .now in
-    let nodes-whole : wholeRecords nodes maxNodes ≡ false = sym (c .before .whole-records .ensures) ∙ not-true _ (c .if1 .taken) in
-    rw (nodes-whole)
+enum-known-r : tie.Need-enum-known-r
+enum-known-r c = search needs
 
-whole-records-requires-2 : tie.Need-whole-records-requires-2
-whole-records-requires-2 c κs = search needs
-
-returns-2 : tie.Need-returns-2
-unfolding priorsRefusal
-returns-2 c =
-    let nodes = c .before .before .before .before .before .before .args .nodes .now in
-    let children = c .before .before .before .before .before .before .args .children .now in
-    let nodes-whole : wholeRecords nodes maxNodes ≡ true = sym (c .before .before .before .whole-records .ensures) ∙ not-false _ (c .before .before .if1 .left) in
-    let children-whole : wholeRecords children maxChildren ≡ false = sym (c .before .whole-records2 .ensures) ∙ not-true _ (c .if2 .taken) in
-    rw (nodes-whole, children-whole)
-
-nodes-ascend-requires : tie.Need-nodes-ascend-requires
-nodes-ascend-requires c κs = search needs
-
-returns-3 : tie.Need-returns-3
-unfolding priorsRefusal
-returns-3 c =
-    let nodes = c .before .before .before .before .before .before .before .before .args .nodes .now in
-    let children = c .before .before .before .before .before .before .before .before .args .children .now in
-    let nodes-whole : wholeRecords nodes maxNodes ≡ true = sym (c .before .before .before .before .before .whole-records .ensures) ∙ not-false _ (c .before .before .before .before .if1 .left) in
-    let children-whole : wholeRecords children maxChildren ≡ true = sym (c .before .before .before .whole-records2 .ensures) ∙ not-false _ (c .before .before .if2 .left) in
-    let nodes-order : ascends (records nodes) ≡ false = sym (c .before .nodes-ascend .ensures) ∙ not-true _ (c .if3 .taken) in
-    rw (nodes-whole, children-whole, nodes-order)
-
-first-links-fit-requires : tie.Need-first-links-fit-requires
-first-links-fit-requires c κs = search needs
-
-returns-4 : tie.Need-returns-4
-unfolding priorsRefusal
-returns-4 c =
-    let nodes = c .before .before .before .before .before .before .before .before .before .before .args .nodes .now in
-    let children = c .before .before .before .before .before .before .before .before .before .before .args .children .now in
-    let nodes-whole : wholeRecords nodes maxNodes ≡ true = sym (c .before .before .before .before .before .before .before .whole-records .ensures) ∙ not-false _ (c .before .before .before .before .before .before .if1 .left) in
-    let children-whole : wholeRecords children maxChildren ≡ true = sym (c .before .before .before .before .before .whole-records2 .ensures) ∙ not-false _ (c .before .before .before .before .if2 .left) in
-    let nodes-order : ascends (records nodes) ≡ true = sym (c .before .before .before .nodes-ascend .ensures) ∙ not-false _ (c .before .before .if3 .left) in
-    let firsts : everyNode nodes (firstLinkFits nodes children) ≡ false = sym (c .before .first-links-fit .ensures) ∙ not-true _ (c .if4 .taken) in
-    rw (nodes-whole, children-whole, nodes-order, firsts)
-
-next-links-fit-requires : tie.Need-next-links-fit-requires
-next-links-fit-requires c κs = search needs
-
-returns-5 : tie.Need-returns-5
-unfolding priorsRefusal
-returns-5 c =
-    let nodes = c .before .before .before .before .before .before .before .before .before .before .before .before .args .nodes .now in
-    let children = c .before .before .before .before .before .before .before .before .before .before .before .before .args .children .now in
-    let nodes-whole : wholeRecords nodes maxNodes ≡ true = sym (c .before .before .before .before .before .before .before .before .before .whole-records .ensures) ∙ not-false _ (c .before .before .before .before .before .before .before .before .if1 .left) in
-    let children-whole : wholeRecords children maxChildren ≡ true = sym (c .before .before .before .before .before .before .before .whole-records2 .ensures) ∙ not-false _ (c .before .before .before .before .before .before .if2 .left) in
-    let nodes-order : ascends (records nodes) ≡ true = sym (c .before .before .before .before .before .nodes-ascend .ensures) ∙ not-false _ (c .before .before .before .before .if3 .left) in
-    let firsts : everyNode nodes (firstLinkFits nodes children) ≡ true = sym (c .before .before .before .first-links-fit .ensures) ∙ not-false _ (c .before .before .if4 .left) in
-    let nexts : everyChild children (nextLinkFits children) ≡ false = sym (c .before .next-links-fit .ensures) ∙ not-true _ (c .if5 .taken) in
-    rw (nodes-whole, children-whole, nodes-order, firsts, nexts)
-
-chains-fit-requires : tie.Need-chains-fit-requires
-chains-fit-requires c κs = (sym (c .before .before .before .first-links-fit .ensures) ∙ not-false _ (c .before .before .if4 .left), sym (c .before .next-links-fit .ensures) ∙ not-false _ (c .if5 .left))
-
-returns-6 : tie.Need-returns-6
-unfolding priorsRefusal
-returns-6 c =
-    let nodes = c .before .before .before .before .before .before .before .before .before .before .before .before .before .before .args .nodes .now in
-    let children = c .before .before .before .before .before .before .before .before .before .before .before .before .before .before .args .children .now in
-    let nodes-whole : wholeRecords nodes maxNodes ≡ true = sym (c .before .before .before .before .before .before .before .before .before .before .before .whole-records .ensures) ∙ not-false _ (c .before .before .before .before .before .before .before .before .before .before .if1 .left) in
-    let children-whole : wholeRecords children maxChildren ≡ true = sym (c .before .before .before .before .before .before .before .before .before .whole-records2 .ensures) ∙ not-false _ (c .before .before .before .before .before .before .before .before .if2 .left) in
-    let nodes-order : ascends (records nodes) ≡ true = sym (c .before .before .before .before .before .before .before .nodes-ascend .ensures) ∙ not-false _ (c .before .before .before .before .before .before .if3 .left) in
-    let firsts : everyNode nodes (firstLinkFits nodes children) ≡ true = sym (c .before .before .before .before .before .first-links-fit .ensures) ∙ not-false _ (c .before .before .before .before .if4 .left) in
-    let nexts : everyChild children (nextLinkFits children) ≡ true = sym (c .before .before .before .next-links-fit .ensures) ∙ not-false _ (c .before .before .if5 .left) in
-    let lengths : everyNode nodes (chainFits nodes children) ≡ false = sym (c .before .chains-fit .ensures) ∙ not-true _ (c .if6 .taken) in
-    rw (nodes-whole, children-whole, nodes-order, firsts, nexts, lengths)
-
-chains-ascend-requires : tie.Need-chains-ascend-requires
-chains-ascend-requires c κs = (sym (c .before .before .before .before .before .first-links-fit .ensures) ∙ not-false _ (c .before .before .before .before .if4 .left), sym (c .before .before .before .next-links-fit .ensures) ∙ not-false _ (c .before .before .if5 .left))
-
-returns-7 : tie.Need-returns-7
-unfolding priorsRefusal
-returns-7 c =
-    let nodes = c .before .before .before .before .before .before .before .before .before .before .before .before .before .before .before .before .args .nodes .now in
-    let children = c .before .before .before .before .before .before .before .before .before .before .before .before .before .before .before .before .args .children .now in
-    let nodes-whole : wholeRecords nodes maxNodes ≡ true = sym (c .before .before .before .before .before .before .before .before .before .before .before .before .before .whole-records .ensures) ∙ not-false _ (c .before .before .before .before .before .before .before .before .before .before .before .before .if1 .left) in
-    let children-whole : wholeRecords children maxChildren ≡ true = sym (c .before .before .before .before .before .before .before .before .before .before .before .whole-records2 .ensures) ∙ not-false _ (c .before .before .before .before .before .before .before .before .before .before .if2 .left) in
-    let nodes-order : ascends (records nodes) ≡ true = sym (c .before .before .before .before .before .before .before .before .before .nodes-ascend .ensures) ∙ not-false _ (c .before .before .before .before .before .before .before .before .if3 .left) in
-    let firsts : everyNode nodes (firstLinkFits nodes children) ≡ true = sym (c .before .before .before .before .before .before .before .first-links-fit .ensures) ∙ not-false _ (c .before .before .before .before .before .before .if4 .left) in
-    let nexts : everyChild children (nextLinkFits children) ≡ true = sym (c .before .before .before .before .before .next-links-fit .ensures) ∙ not-false _ (c .before .before .before .before .if5 .left) in
-    let lengths : everyNode nodes (chainFits nodes children) ≡ true = sym (c .before .before .before .chains-fit .ensures) ∙ not-false _ (c .before .before .if6 .left) in
-    let orders : everyNode nodes (chainAscends nodes children) ≡ false = sym (c .before .chains-ascend .ensures) ∙ not-true _ (c .if7 .taken) in
-    rw (nodes-whole, children-whole, nodes-order, firsts, nexts, lengths, orders)
-
-counts-fit-requires : tie.Need-counts-fit-requires
-counts-fit-requires c κs = search needs
-
-returns-8 : tie.Need-returns-8
-unfolding priorsRefusal
-returns-8 c =
-    let nodes = c .before .before .before .before .before .before .before .before .before .before .before .before .before .before .before .before .before .before .args .nodes .now in
-    let children = c .before .before .before .before .before .before .before .before .before .before .before .before .before .before .before .before .before .before .args .children .now in
-    let nodes-whole : wholeRecords nodes maxNodes ≡ true = sym (c .before .before .before .before .before .before .before .before .before .before .before .before .before .before .before .whole-records .ensures) ∙ not-false _ (c .before .before .before .before .before .before .before .before .before .before .before .before .before .before .if1 .left) in
-    let children-whole : wholeRecords children maxChildren ≡ true = sym (c .before .before .before .before .before .before .before .before .before .before .before .before .before .whole-records2 .ensures) ∙ not-false _ (c .before .before .before .before .before .before .before .before .before .before .before .before .if2 .left) in
-    let nodes-order : ascends (records nodes) ≡ true = sym (c .before .before .before .before .before .before .before .before .before .before .before .nodes-ascend .ensures) ∙ not-false _ (c .before .before .before .before .before .before .before .before .before .before .if3 .left) in
-    let firsts : everyNode nodes (firstLinkFits nodes children) ≡ true = sym (c .before .before .before .before .before .before .before .before .before .first-links-fit .ensures) ∙ not-false _ (c .before .before .before .before .before .before .before .before .if4 .left) in
-    let nexts : everyChild children (nextLinkFits children) ≡ true = sym (c .before .before .before .before .before .before .before .next-links-fit .ensures) ∙ not-false _ (c .before .before .before .before .before .before .if5 .left) in
-    let lengths : everyNode nodes (chainFits nodes children) ≡ true = sym (c .before .before .before .before .before .chains-fit .ensures) ∙ not-false _ (c .before .before .before .before .if6 .left) in
-    let orders : everyNode nodes (chainAscends nodes children) ≡ true = sym (c .before .before .before .chains-ascend .ensures) ∙ not-false _ (c .before .before .if7 .left) in
-    let counts : everyChild children (countFits children) ≡ false = sym (c .before .counts-fit .ensures) ∙ not-true _ (c .if8 .taken) in
-    rw (nodes-whole, children-whole, nodes-order, firsts, nexts, lengths, orders, counts)
-
-totals-fit-requires : tie.Need-totals-fit-requires
-totals-fit-requires c κs = (sym (c .before .before .before .before .before .before .before .before .before .first-links-fit .ensures) ∙ not-false _ (c .before .before .before .before .before .before .before .before .if4 .left), (sym (c .before .before .before .before .before .before .before .next-links-fit .ensures) ∙ not-false _ (c .before .before .before .before .before .before .if5 .left), sym (c .before .counts-fit .ensures) ∙ not-false _ (c .if8 .left)))
-
-returns-9 : tie.Need-returns-9
-unfolding priorsRefusal
-returns-9 c =
-    let nodes = c .before .before .before .before .before .before .before .before .before .before .before .before .before .before .before .before .before .before .before .before .args .nodes .now in
-    let children = c .before .before .before .before .before .before .before .before .before .before .before .before .before .before .before .before .before .before .before .before .args .children .now in
-    let nodes-whole : wholeRecords nodes maxNodes ≡ true = sym (c .before .before .before .before .before .before .before .before .before .before .before .before .before .before .before .before .before .whole-records .ensures) ∙ not-false _ (c .before .before .before .before .before .before .before .before .before .before .before .before .before .before .before .before .if1 .left) in
-    let children-whole : wholeRecords children maxChildren ≡ true = sym (c .before .before .before .before .before .before .before .before .before .before .before .before .before .before .before .whole-records2 .ensures) ∙ not-false _ (c .before .before .before .before .before .before .before .before .before .before .before .before .before .before .if2 .left) in
-    let nodes-order : ascends (records nodes) ≡ true = sym (c .before .before .before .before .before .before .before .before .before .before .before .before .before .nodes-ascend .ensures) ∙ not-false _ (c .before .before .before .before .before .before .before .before .before .before .before .before .if3 .left) in
-    let firsts : everyNode nodes (firstLinkFits nodes children) ≡ true = sym (c .before .before .before .before .before .before .before .before .before .before .before .first-links-fit .ensures) ∙ not-false _ (c .before .before .before .before .before .before .before .before .before .before .if4 .left) in
-    let nexts : everyChild children (nextLinkFits children) ≡ true = sym (c .before .before .before .before .before .before .before .before .before .next-links-fit .ensures) ∙ not-false _ (c .before .before .before .before .before .before .before .before .if5 .left) in
-    let lengths : everyNode nodes (chainFits nodes children) ≡ true = sym (c .before .before .before .before .before .before .before .chains-fit .ensures) ∙ not-false _ (c .before .before .before .before .before .before .if6 .left) in
-    let orders : everyNode nodes (chainAscends nodes children) ≡ true = sym (c .before .before .before .before .before .chains-ascend .ensures) ∙ not-false _ (c .before .before .before .before .if7 .left) in
-    let counts : everyChild children (countFits children) ≡ true = sym (c .before .before .before .counts-fit .ensures) ∙ not-false _ (c .before .before .if8 .left) in
-    let totals : everyNode nodes (totalFits nodes children) ≡ false = sym (c .before .totals-fit .ensures) ∙ not-true _ (c .if9 .taken) in
-    rw (nodes-whole, children-whole, nodes-order, firsts, nexts, lengths, orders, counts, totals)
+enum-told : tie.Need-enum-told
+enum-told c = search needs
 
 points-differ-requires : tie.Need-points-differ-requires
 points-differ-requires c κs =
-    let nodes = c .before .before .before .before .before .before .before .before .before .before .before .before .before .before .before .before .before .before .before .before .args .nodes .now in
-    let nodes-whole : wholeRecords nodes maxNodes ≡ true = sym (c .before .before .before .before .before .before .before .before .before .before .before .before .before .before .before .before .before .whole-records .ensures) ∙ not-false _ (c .before .before .before .before .before .before .before .before .before .before .before .before .before .before .before .before .if1 .left) in
-    let nodes-order : ascends (records nodes) ≡ true = sym (c .before .before .before .before .before .before .before .before .before .before .before .before .before .nodes-ascend .ensures) ∙ not-false _ (c .before .before .before .before .before .before .before .before .before .before .before .before .if3 .left) in
-    (nodes-order, not-too-many nodes maxNodes nodes-whole)
+    let start = c .before .before .before .before .before in
+    let ok = recorded (start .args .nodes .now) (start .args .children .now) (sym (c .before .before .check-records .ensures) ∙ ap checkedNumber (c .enum-told .given .1)) in
+    (ok .ordered, not-too-many (start .args .nodes .now) maxNodes (ok .whole))
 
-returns-10 : tie.Need-returns-10
-unfolding priorsRefusal
-returns-10 c =
-    let nodes = c .before .before .before .before .before .before .before .before .before .before .before .before .before .before .before .before .before .before .before .before .before .before .args .nodes .now in
-    let children = c .before .before .before .before .before .before .before .before .before .before .before .before .before .before .before .before .before .before .before .before .before .before .args .children .now in
-    let layer = c .before .before .before .before .before .before .before .before .before .before .before .before .before .before .before .before .before .before .before .before .before .before .args .layer in
-    let nodes-whole : wholeRecords nodes maxNodes ≡ true = sym (c .before .before .before .before .before .before .before .before .before .before .before .before .before .before .before .before .before .before .before .whole-records .ensures) ∙ not-false _ (c .before .before .before .before .before .before .before .before .before .before .before .before .before .before .before .before .before .before .if1 .left) in
-    let children-whole : wholeRecords children maxChildren ≡ true = sym (c .before .before .before .before .before .before .before .before .before .before .before .before .before .before .before .before .before .whole-records2 .ensures) ∙ not-false _ (c .before .before .before .before .before .before .before .before .before .before .before .before .before .before .before .before .if2 .left) in
-    let nodes-order : ascends (records nodes) ≡ true = sym (c .before .before .before .before .before .before .before .before .before .before .before .before .before .before .before .nodes-ascend .ensures) ∙ not-false _ (c .before .before .before .before .before .before .before .before .before .before .before .before .before .before .if3 .left) in
-    let firsts : everyNode nodes (firstLinkFits nodes children) ≡ true = sym (c .before .before .before .before .before .before .before .before .before .before .before .before .before .first-links-fit .ensures) ∙ not-false _ (c .before .before .before .before .before .before .before .before .before .before .before .before .if4 .left) in
-    let nexts : everyChild children (nextLinkFits children) ≡ true = sym (c .before .before .before .before .before .before .before .before .before .before .before .next-links-fit .ensures) ∙ not-false _ (c .before .before .before .before .before .before .before .before .before .before .if5 .left) in
-    let lengths : everyNode nodes (chainFits nodes children) ≡ true = sym (c .before .before .before .before .before .before .before .before .before .chains-fit .ensures) ∙ not-false _ (c .before .before .before .before .before .before .before .before .if6 .left) in
-    let orders : everyNode nodes (chainAscends nodes children) ≡ true = sym (c .before .before .before .before .before .before .before .chains-ascend .ensures) ∙ not-false _ (c .before .before .before .before .before .before .if7 .left) in
-    let counts : everyChild children (countFits children) ≡ true = sym (c .before .before .before .before .before .counts-fit .ensures) ∙ not-false _ (c .before .before .before .before .if8 .left) in
-    let totals : everyNode nodes (totalFits nodes children) ≡ true = sym (c .before .before .before .totals-fit .ensures) ∙ not-false _ (c .before .before .if9 .left) in
-    let apart : pointsDiffer nodes layer ≡ false = sym (c .before .points-differ .ensures) ∙ not-true _ (c .if10 .taken) in
-    rw (nodes-whole, children-whole, nodes-order, firsts, nexts, lengths, orders, counts, totals, apart)
+returns : tie.Need-returns
+returns c =
+    let told = c .before .before in
+    let start = told .before .before .before .before .before in
+    let ok = recorded (start .args .nodes .now) (start .args .children .now) (sym (told .before .before .check-records .ensures) ∙ ap checkedNumber (told .enum-told .given .1)) in
+    sym (points-last (start .args .nodes .now) (start .args .children .now) (start .args .layer) ok ∙ ap (λ (b : Bool). cond b 0 22) (sym (c .before .points-differ .ensures) ∙ c .if1 .taken))
 
-returns-11 : tie.Need-returns-11
-unfolding priorsRefusal
-returns-11 c =
-    let nodes = c .before .before .before .before .before .before .before .before .before .before .before .before .before .before .before .before .before .before .before .before .before .before .args .nodes .now in
-    let children = c .before .before .before .before .before .before .before .before .before .before .before .before .before .before .before .before .before .before .before .before .before .before .args .children .now in
-    let layer = c .before .before .before .before .before .before .before .before .before .before .before .before .before .before .before .before .before .before .before .before .before .before .args .layer in
-    let nodes-whole : wholeRecords nodes maxNodes ≡ true = sym (c .before .before .before .before .before .before .before .before .before .before .before .before .before .before .before .before .before .before .before .whole-records .ensures) ∙ not-false _ (c .before .before .before .before .before .before .before .before .before .before .before .before .before .before .before .before .before .before .if1 .left) in
-    let children-whole : wholeRecords children maxChildren ≡ true = sym (c .before .before .before .before .before .before .before .before .before .before .before .before .before .before .before .before .before .whole-records2 .ensures) ∙ not-false _ (c .before .before .before .before .before .before .before .before .before .before .before .before .before .before .before .before .if2 .left) in
-    let nodes-order : ascends (records nodes) ≡ true = sym (c .before .before .before .before .before .before .before .before .before .before .before .before .before .before .before .nodes-ascend .ensures) ∙ not-false _ (c .before .before .before .before .before .before .before .before .before .before .before .before .before .before .if3 .left) in
-    let firsts : everyNode nodes (firstLinkFits nodes children) ≡ true = sym (c .before .before .before .before .before .before .before .before .before .before .before .before .before .first-links-fit .ensures) ∙ not-false _ (c .before .before .before .before .before .before .before .before .before .before .before .before .if4 .left) in
-    let nexts : everyChild children (nextLinkFits children) ≡ true = sym (c .before .before .before .before .before .before .before .before .before .before .before .next-links-fit .ensures) ∙ not-false _ (c .before .before .before .before .before .before .before .before .before .before .if5 .left) in
-    let lengths : everyNode nodes (chainFits nodes children) ≡ true = sym (c .before .before .before .before .before .before .before .before .before .chains-fit .ensures) ∙ not-false _ (c .before .before .before .before .before .before .before .before .if6 .left) in
-    let orders : everyNode nodes (chainAscends nodes children) ≡ true = sym (c .before .before .before .before .before .before .before .chains-ascend .ensures) ∙ not-false _ (c .before .before .before .before .before .before .if7 .left) in
-    let counts : everyChild children (countFits children) ≡ true = sym (c .before .before .before .before .before .counts-fit .ensures) ∙ not-false _ (c .before .before .before .before .if8 .left) in
-    let totals : everyNode nodes (totalFits nodes children) ≡ true = sym (c .before .before .before .totals-fit .ensures) ∙ not-false _ (c .before .before .if9 .left) in
-    let apart : pointsDiffer nodes layer ≡ true = sym (c .before .points-differ .ensures) ∙ not-false _ (c .if10 .left) in
-    rw (nodes-whole, children-whole, nodes-order, firsts, nexts, lengths, orders, counts, totals, apart)
+returns-2 : tie.Need-returns-2
+returns-2 c =
+    let checked = c .before .before .before in
+    let start = checked .before .before .before in
+    let r = c .before .r .given .0 .0 in
+    let n = some-number r in
+    let first : recordsRefusal (start .args .nodes .now) (start .args .children .now) ≡ numberOf r = sym (checked .check-records .ensures) ∙ ap checkedNumber (c .before .r .given .1) in
+    n .1 ∙ sym (records-first (start .args .nodes .now) (start .args .children .now) (start .args .layer) (n .0) (first ∙ n .1))
+
+returns-3 : tie.Need-returns-3
+returns-3 c =
+    let told = c .before .before in
+    let start = told .before .before .before .before .before in
+    let ok = recorded (start .args .nodes .now) (start .args .children .now) (sym (told .before .before .check-records .ensures) ∙ ap checkedNumber (told .enum-told .given .1)) in
+    sym (points-last (start .args .nodes .now) (start .args .children .now) (start .args .layer) ok ∙ ap (λ (b : Bool). cond b 0 22) (sym (c .before .points-differ .ensures) ∙ c .if1 .left))
 
 pub check-priors-spec : {M : Type 1} → statement M
-check-priors-spec =
-    tie.close
-    (tie.spec
-    whole-records-requires
-    returns
-    whole-records-requires-2
-    returns-2
-    nodes-ascend-requires
-    returns-3
-    first-links-fit-requires
-    returns-4
-    next-links-fit-requires
-    returns-5
-    chains-fit-requires
-    returns-6
-    chains-ascend-requires
-    returns-7
-    counts-fit-requires
-    returns-8
-    totals-fit-requires
-    returns-9
-    points-differ-requires
-    returns-10
-    returns-11)
+check-priors-spec = tie.close (tie.spec check-records-requires enum-known-r enum-told points-differ-requires returns returns-2 returns-3)
