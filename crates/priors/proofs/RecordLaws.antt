@@ -1,17 +1,16 @@
 -- Records as a list: what stands at an index, and when the list ascends. Assumes nothing.
-use mathlib.Core.Path.{_≡_, refl, ap, _∙_}
+use mathlib.Core.Path.{_≡_, ap, _∙_}
 use mathlib.Core.Logic.{⊎-elim}
 use mathlib.Core.Bool.{true, _&&_}
 use Prim.Native.Nat.{ℕ, zero, suc, _≤_, _<_}
 use native.Mathlib.Omega.{arith}
 use mathlib.Core.List.{List, [], _∷_}
-use mathlib.Core.Option.{none, some}
 use lib.Dec.{ltb}
 use lib.ListN.{length, getD, drop}
 use lib.Seq.{drop-cons, drop-length}
-use borrow.Author.Tests.{ltb-true, eq-eqb, ne-eqb}
+use borrow.Author.Tests.{ltb-true}
 use Rattle.priors.specs.declared.records.Record.{Record}
-use Rattle.priors.specs.Priors.{recordAt, recordCount, records, ascendsAfter, ascends, findRecord}
+use Rattle.priors.specs.Priors.{recordAt, recordCount, records, ascendsAfter, ascends}
 use Rattle.priors.proofs.Tests.{split}
 use Rattle.priors.proofs.BelowLaws.{first-true, second-true, length-listOf, getD-listOf}
 

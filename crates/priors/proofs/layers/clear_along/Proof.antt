@@ -1,10 +1,9 @@
 -- From the last record with the slot of i back along the links: none passed point-holds.
-use mathlib.Core.Path.{_≡_, refl, sym, ap, ap₂, _∙_}
+use mathlib.Core.Path.{_≡_, sym, ap, ap₂, _∙_}
 use native.Mathlib.Omega.{arith}
-use Prim.Native.Nat.{ℕ, suc, _-_, _≤_, _<_}
-use lib.ListN.{getD}
+use Prim.Native.Nat.{_-_, _≤_, _<_}
 use Rattle.priors.specs.declared.records.Record.{Record}
-use Rattle.priors.specs.Priors.{recordAt, recordCount, onePoint, clearBefore}
+use Rattle.priors.specs.Priors.{recordAt, onePoint}
 use Rattle.priors.specs.Layer.{slotOf, Latest}
 use Rattle.priors.proofs.SlotLaws.{ClearFrom, clear-last, clear-on, clear-all, clear-fails}
 use borrow.Author.Needs.{needs}

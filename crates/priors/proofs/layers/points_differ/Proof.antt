@@ -1,4 +1,4 @@
-use mathlib.Core.Path.{_≡_, sym, ap}
+use mathlib.Core.Path.{sym, ap}
 use native.Mathlib.Omega.{arith}
 use Rattle.priors.specs.declared.records.Record.{Record}
 use Rattle.priors.proofs.SlotLaws.{few-clear, second-high}

@@ -1,14 +1,14 @@
 -- Each record below the layer in turn; heads and links name the earlier ones by their slots.
-use mathlib.Core.Path.{_≡_, refl, sym, ap, _∙_}
+use mathlib.Core.Path.{_≡_, sym, ap, _∙_}
 use native.Mathlib.Omega.{arith}
 use mathlib.Core.Bool.{true}
-use Prim.Native.Nat.{ℕ, _+_, _-_, _%_, _≤_, _<_}
+use Prim.Native.Nat.{ℕ, _-_, _≤_, _<_}
 use native.Mathlib.Numerals.{add-one}
 use borrow.Author.Tests.{not-true, not-false}
-use lib.ListN.{length, getD, set, replicate, length-set, length-replicate}
+use lib.ListN.{length, getD, length-set, length-replicate}
 use Rattle.priors.specs.Below.{allBelow}
 use Rattle.priors.specs.declared.records.Record.{Record}
-use Rattle.priors.specs.Priors.{recordAt, recordCount, clearBefore, pointsDiffer}
+use Rattle.priors.specs.Priors.{recordCount, clearBefore, pointsDiffer}
 use Rattle.priors.specs.Layer.{slot, slotOf, Latest, Linked}
 use Rattle.priors.proofs.BelowLaws.{all-none, all-more, all-fails}
 use Rattle.priors.proofs.SlotLaws.{rest-clear, heads-start, heads-next, links-next}

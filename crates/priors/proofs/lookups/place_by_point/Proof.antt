@@ -1,9 +1,9 @@
 -- Groups of one scale in turn; in each, the place of the one address with that scale and the point wanted.
-use mathlib.Core.Path.{_≡_, sym, ap, _∙_}
+use mathlib.Core.Path.{_≡_, sym, ap}
 use native.Mathlib.Omega.{arith}
-use Prim.Native.Nat.{ℕ, _-_, _≤_, _<_}
+use Prim.Native.Nat.{_-_, _≤_, _<_}
 use Rattle.priors.specs.declared.records.Record.{Record}
-use Rattle.priors.specs.Priors.{recordAt, recordCount}
+use Rattle.priors.specs.Priors.{recordAt}
 use Rattle.priors.proofs.LayerLaws.{Passed, none-found, none-exact, none-left, all-high, past-all, group-ends, passed-on, found-key, group-up}
 use borrow.Author.Needs.{needs}
 use Rattle.priors.proofs.lookups.place_by_point.Statement.{statement}

@@ -1,4 +1,4 @@
-use mathlib.Core.Path.{_≡_, sym, ap, _∙_}
+use mathlib.Core.Path.{_≡_, ap}
 use native.Mathlib.Omega.{arith}
 use Rattle.priors.specs.declared.records.Record.{Record}
 use Rattle.priors.specs.Priors.{recordAt}

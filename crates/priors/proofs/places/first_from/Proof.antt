@@ -1,9 +1,9 @@
 -- Steps that double: the records from `from` on and before lo are below; the last step is halved.
-use mathlib.Core.Path.{_≡_, sym, ap, _∙_}
+use mathlib.Core.Path.{ap}
 use native.Mathlib.Omega.{arith}
 use Prim.Native.Nat.{ℕ, _+_, _-_, _≤_, _<_}
 use Rattle.priors.specs.declared.records.Record.{Record}
-use Rattle.priors.specs.Priors.{recordAt, recordCount}
+use Rattle.priors.specs.Priors.{recordAt}
 use Rattle.priors.proofs.RecordLaws.{not-below}
 use Rattle.priors.proofs.LayerLaws.{first-on, all-below}
 use borrow.Author.Needs.{needs}

@@ -1,5 +1,5 @@
 -- Search by halving: the records from `from` on and before lo are below, those from hi on are not.
-use mathlib.Core.Path.{_≡_, sym, ap, _∙_}
+use mathlib.Core.Path.{_≡_, ap}
 use native.Mathlib.Omega.{arith}
 use Prim.Native.Nat.{ℕ, _+_, _-_, _/_, _≤_, _<_}
 use Rattle.priors.specs.declared.records.Record.{Record}
