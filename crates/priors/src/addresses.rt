@@ -1,5 +1,6 @@
 // An address is a scale and a point, ordered by signed scale, then point. Its rank is one number in that order; inside the
-// watch ranks are compared, and points by themselves only below the floor of priors. In bytes an address is two fields: the scale's bits, then the point.
+// watch ranks are compared, and points by themselves only below the floor of priors. In bytes an address is two fields: the
+// scale's bits, then the point.
 ghost use mathlib.Core.Path.{_≡_};
 ghost use Prim.Native.Nat.{_+_, _≤_};
 ghost use lib.ListN.{length};
