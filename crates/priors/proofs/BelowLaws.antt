@@ -35,6 +35,10 @@ module _ (f : ℕ → Bool) where
   unfolding allBelow
   all-more n h t = both-true h t
 
+  pub all-from : (n : ℕ) → ((j : ℕ) → j < n → f j ≡ true) → allBelow n f ≡ true
+  all-from zero h = all-none
+  all-from (suc n) h = all-more n (all-from n (λ j l. h j (omega arith))) (h n (omega arith))
+
   pub all-at : (n i : ℕ) → allBelow n f ≡ true → i < n → f i ≡ true
   unfolding allBelow
   all-at zero i h l = absurd (omega arith)

@@ -3,7 +3,7 @@ use mathlib.Core.Path.{_≡_, refl, sym, ap, _∙_}
 use mathlib.Core.Logic.{⊎-elim}
 use Prim.Native.Nat.{ℕ, zero, suc, _+_, _*_, _^_, _<_}
 use mathlib.Core.Bool.{Bool, true, false, cond, not, _&&_}
-use mathlib.Core.List.{List, [], _∷_, _++_}
+use mathlib.Core.List.{List, [], _∷_}
 use mathlib.Core.Option.{Option, some, Option·map}
 use lib.Dec.{eqb, ltb}
 use lib.IntN.{ℤ, pos, negsuc, predℤ, negℤ, _+ℤ_, _-ℤ_, predℤ-+ℤ, +ℤ-invr, +ℤ-negℤ-cancel, -ℤ-+ℤ-cancel}
@@ -13,8 +13,7 @@ use mir.Val.{ofZ, SFits}
 use native.Mathlib.Omega.{arith}
 use borrow.Author.Tests.{lt-ltb, le-ltb, eqb-true, eq-eqb, ne-eqb}
 use Rattle.priors.specs.Address.{lift, rank, rankOf}
-use Rattle.priors.specs.Rules.{Rule, rule, firstBroken}
-use Rattle.priors.specs.Priors.{records, layerOf, pointOf, onePoint, foundBy, findRecord, priorOf, priorOfNode, pointsDiffer, recordRules, recordsRefusal, priorsRefusal}
+use Rattle.priors.specs.Priors.{records, layerOf, pointOf, onePoint, foundBy, findRecord, priorOf, priorOfNode, recordsRefusal, priorsRefusal}
 use Rattle.priors.specs.Floors.{sameScale, FoundBy, internalIndex, GokosLayers, PriorIsThatFound, SharedPoint, OnePoint, OneFound, LeastFloor, leastFloor, exactRecord}
 use Rattle.priors.specs.declared.records.Record.{Record}
 use Rattle.priors.proofs.Tests.{three, eqb-same}
@@ -22,7 +21,7 @@ use Rattle.priors.proofs.Ranks.{lift-signed}
 use Rattle.priors.proofs.BelowLaws.{first-true, second-true, both-true}
 use Rattle.priors.proofs.LayerLaws.{below-floor, not-both, points-apart, one-found, found-high, found-one, found-no}
 use Rattle.priors.proofs.SlotLaws.{empty-layer, points-differ}
-use Rattle.priors.proofs.PriorLaws.{accepted}
+use Rattle.priors.proofs.PriorLaws.{recorded, records-first, points-last, accepted}
 
 -- ---- in scales and points
 
@@ -161,14 +160,17 @@ exact rank [] = refl
 exact rank (r ∷ rs) =
     rw (found-high 0 rank (r .rank) (omega arith)) (ap (λ (o : Option Record). cond (eqb (r .rank) rank) (some r) o) (exact rank rs))
 
--- a rule that holds adds nothing at the end
-held : (rules : List Rule) (n : ℕ) (b : Bool) → b ≡ true → firstBroken (rules ++ rule n b ∷ []) ≡ firstBroken rules
-held [] n b h = rw h
-held (r ∷ rules) n b h = ap (λ (m : ℕ). cond (r .holds) m (r .number)) (held rules n b h)
+-- 22 is passed, so that only the records' rules are left
+no-rule : (nodes children : List ℕ) → priorsRefusal nodes children 0 ≡ recordsRefusal nodes children
+no-rule nodes children = go (recordsRefusal nodes children) refl
+  where
+    go : (n : ℕ) → recordsRefusal nodes children ≡ n → priorsRefusal nodes children 0 ≡ recordsRefusal nodes children
+    go zero e = points-last nodes children 0 (recorded nodes children e) ∙ ap (λ (b : Bool). cond b 0 22) (empty-layer nodes) ∙ sym e
+    go (suc m) e = records-first nodes children 0 m e ∙ sym e
 
 pub least-floor : LeastFloor
-unfolding priorOf recordsRefusal priorsRefusal
+unfolding priorOf
 least-floor nodes children rank = (
   ap (λ (layer : ℕ). Option·map (priorOfNode children) (findRecord layer rank (records nodes))) no-scales ∙ ap (Option·map (priorOfNode children)) (exact rank (records nodes)),
-  held (recordRules nodes children) 22 (pointsDiffer nodes (layerOf leastFloor)) (ap (pointsDiffer nodes) no-scales ∙ empty-layer nodes),
+  ap (priorsRefusal nodes children) no-scales ∙ no-rule nodes children,
 )

@@ -1,8 +1,8 @@
 -- 22 along slots: a record has one point only with one of its slot, and the links lead to all of those before it. Assumes nothing.
-use mathlib.Core.Path.{_≡_, refl, sym, ap, _∙_}
+use mathlib.Core.Path.{_≡_, sym, ap, _∙_}
 use mathlib.Core.Logic.{⊎-elim}
-use mathlib.Core.Bool.{Bool, true, false, not}
-use Prim.Native.Nat.{ℕ, zero, suc, _+_, _-_, _*_, _/_, _%_, _^_, _≤_, _<_}
+use mathlib.Core.Bool.{true, false, not}
+use Prim.Native.Nat.{ℕ, suc, _+_, _-_, _*_, _/_, _%_, _^_, _≤_, _<_}
 use native.Mathlib.Omega.{arith}
 use mathlib.Core.List.{List}
 use lib.ListN.{length, getD, set, replicate, getD-replicate}
@@ -11,21 +11,12 @@ use Rattle.priors.specs.Below.{allBelow}
 use Rattle.priors.specs.Priors.{recordAt, recordCount, records, ascends, pointOf, onePoint, clearBefore, pointsDiffer}
 use Rattle.priors.specs.Layer.{slot, slotOf, Latest, Linked}
 use Rattle.priors.proofs.Tests.{split, three}
-use Rattle.priors.proofs.BelowLaws.{all-at, all-fails, all-more}
+use Rattle.priors.proofs.BelowLaws.{all-from, all-at, all-fails}
 use Rattle.priors.proofs.RecordLaws.{not-below}
-use Rattle.priors.proofs.LayerLaws.{not-both, point-parts}
-
-pub all-from : (f : ℕ → Bool) (n : ℕ) → ((j : ℕ) → j < n → f j ≡ true) → allBelow n f ≡ true
-unfolding allBelow
-all-from f zero h = refl
-all-from f (suc n) h = all-more f n (all-from f n (λ j l. h j (omega arith))) (h n (omega arith))
+use Rattle.priors.proofs.LayerLaws.{no-answer, not-both, point-parts}
 
 one-slot : (a b : ℕ) → pointOf a ≡ pointOf b → slot b ≡ slot a
 one-slot a b e = ap (λ (p : ℕ). p * 2654435761 / 1048576 % 4096) (sym e)
-
-is-clear : (b : Bool) → (b ≡ true → ⊥) → not b ≡ true
-is-clear true h = absurd (h refl)
-is-clear false h = refl
 
 -- the record i has one point with none from this place on
 abbrev pub ClearFrom : List ℕ → ℕ → ℕ → ℕ → Type 0
@@ -53,7 +44,7 @@ module _ (s : List ℕ) (layer i : ℕ) where
   unfolding clearBefore
   clear-all h =
       all-from (λ j. not (onePoint layer (recordAt s i .rank) (recordAt s j .rank))) i (λ j l.
-      is-clear (onePoint layer (recordAt s i .rank) (recordAt s j .rank)) (h j (omega arith) l))
+      ap not (no-answer (onePoint layer (recordAt s i .rank) (recordAt s j .rank)) (h j (omega arith) l)))
 
   pub clear-fails : (j : ℕ) → j < i → onePoint layer (recordAt s i .rank) (recordAt s j .rank) ≡ true → clearBefore s layer i ≡ false
   unfolding clearBefore
