@@ -4,7 +4,7 @@ use mathlib.Core.Path.{_≡_, refl}
 use mathlib.Core.List.{List, [], _∷_, _++_, map, flatMap}
 use mathlib.Core.Option.{Option, none, some}
 use Prim.Native.Nat.{ℕ, _+_, _-_, _*_}
-use lib.IntN.{pos}
+use lib.IntN.{ℤ, pos, negsuc}
 use lib.ListN.{length}
 use lib.Ieee.{Float, binary64, add, sub, mul, div, le, ofInt, ofBits}
 use Rattle.priors.specs.Below.{allBelow, listOf}
@@ -14,7 +14,7 @@ use Rattle.priors.specs.Rows.{row, change, countOf}
 use Rattle.priors.specs.Tables as Tables
 use Rattle.priors.specs.Tables.{LentTables, lentTables}
 use Rattle.priors.specs.Floors.{leastFloor}
-use Rattle.priors.specs.Priors.{LentPriors, lentPriors, Counts}
+use Rattle.priors.specs.Priors.{LentPriors, lentPriors, layerOf, Counts, priorsRefusal}
 use Rattle.priors.specs.Priors as Priors
 use Rattle.book.specs.Keys.{keyOf, endKey, childKey, nodeOf, kindOf, childOf}
 use Rattle.book.specs.Entries as Entries
@@ -32,6 +32,7 @@ use Rattle.divergence.specs.Nodes.{spread, listedNodes, evidenceOf}
 use Rattle.divergence.specs.RecountNodes as RecountNodes
 use Rattle.divergence.specs.Divergence as Divergence
 use Rattle.divergence.specs.Statistics as Walks
+use Rattle.divergence.specs.Statistics.{noStats}
 use Rattle.divergence.specs.Probability as Probability
 use Rattle.divergence.specs.Readings as Readings
 use Rattle.divergence.specs.Readings.{Reading, refused, nothing, answered, mapped, Statistics, nodesOf}
@@ -55,7 +56,7 @@ tableG last = listOf (last + 1) (λ k. flt (k * k))
 abbrev pub tableD : ℕ → List Float
 tableD last = listOf (last + 1) (λ k. flt (4 * k))
 
--- the address of a scale not below 0
+-- the address with these bits of a scale
 abbrev pub addressOn : ℕ → ℕ → List ℕ
 addressOn scale point = wordBytes scale ++ wordBytes point
 
@@ -77,6 +78,23 @@ first = addressOn 1 7 ++ addressOn 0 9
 
 abbrev pub second : List ℕ
 second = addressOn 1 7
+
+-- the same record at (-5,7), and a path that begins at (-4,7) instead
+abbrev pub fineNodes : List ℕ
+fineNodes = addressOn 4294967291 7 ++ (wordBytes 1 ++ wordBytes 1)
+
+abbrev pub finePath : List ℕ
+finePath = addressOn 4294967292 7 ++ addressOn 0 9
+
+-- what is told with a floor
+abbrev pub statsUnder : ℤ → Reading Statistics
+statsUnder floor =
+    let m = tracker 3 (finePath ∷ []) in
+    statsAsked (seenOf (m .state) (m .book) (m .queue)) (lentTables (tableG 7) (tableD 7)) (lentPriors fineNodes children floor)
+
+-- the number of priors that have a record at (-4,7), too
+abbrev pub twoUnder : ℤ → ℕ
+twoUnder floor = priorsRefusal (fineNodes ++ (addressOn 4294967292 7 ++ (wordBytes 1 ++ wordBytes 1))) children (layerOf floor)
 
 -- an output of three places, with 5 in every byte and every figure
 abbrev pub fives : Output
@@ -196,6 +214,12 @@ Rows =
     × (evidenceOnly (tracker 3 (first ∷ second ∷ [])) (rank 0 9) ≡ record { answer = nothing; output = fives })
     -- tables ending at 6: 15, of the node (1,7)
     × (kl (tracker 3 (first ∷ second ∷ [])) 6 (rank 1 7) ≡ refused 15 (some (record { scale = pos 1; point = 7 })))
+    -- the record at (-5,7) and the path (-4,7),(0,9): with floor -3 divergence 6, one skipped; with floor -4 both skipped
+    × (statsUnder (negsuc 2) ≡ answered (record { stats = ofOne 6; skipped = 1 }))
+    × (statsUnder (negsuc 3) ≡ answered (record { stats = noStats 1; skipped = 2 }))
+    -- records at (-5,7) and (-4,7): 22 with floor -3, none with floor -4
+    × (twoUnder (negsuc 2) ≡ 22)
+    × (twoUnder (negsuc 3) ≡ 0)
     -- first add, book of two entries: 12; of three: taken
     × (firstAdd 2 ≡ 12)
     × (firstAdd 3 ≡ 0)
@@ -227,4 +251,4 @@ Rows =
 
 pub rows-hold : Rows
 unfolding le word store lift rank addressOf change countOf Tables.entriesFit Tables.entryFits Tables.lengthsFit Tables.tablesRefusal Priors.ascends Priors.ascendsAfter Priors.chain Priors.chainAscends Priors.chainFits Priors.chainOf Priors.clearBefore Priors.countFits Priors.countSum Priors.findRecord Priors.firstLinkFits Priors.foundBy Priors.nextLinkFits Priors.onePoint Priors.pointsDiffer Priors.priorOf Priors.priorsRefusal Priors.recordAt Priors.records Priors.total Priors.totalFits Priors.wholeRecords keyOf endKey childKey nodeOf kindOf childOf Entries.bytesOf Entries.rowAt Entries.keyAt Entries.rowBytes Entries.rows stepsOf wholePath listedKeys countedKeys Form.bookFits Form.follows Form.formed Form.formedAfter Form.inForm Form.lengthsFit Form.plain Form.queueFits Form.stateFits changeAll addRows Calls.addBook Calls.addNumber Calls.addQueue Calls.addState Calls.bookAfter Calls.leaving Calls.openBook Calls.openNumber Calls.openQueue Calls.openState Calls.placeBytes Calls.queueWith Calls.rowsAfter Calls.stateAfter Paths.total Paths.transitions Paths.endings Recount.windowPart Recount.sequenceLength Recount.enter Recount.enterAll Recount.listing Claims.addRefusal bookStep runs spread listedNodes evidenceOf RecountNodes.nodesListed RecountNodes.followers RecountNodes.childrenListed RecountNodes.nodeCounted RecountNodes.recountNodes Divergence.childTerms Divergence.closed Divergence.divergence Divergence.endingTerm Divergence.lacksChild Divergence.noLess Divergence.nodeDivergence Divergence.term Walks.counted Walks.noted Walks.statsOver Walks.walk Probability.evidenceProbVector Probability.posterior Probability.probVector Probability.withEvidence Probability.withTotal Readings.filledAddresses Readings.filledFigures Readings.withPrior Readings.klReading Readings.allReading Readings.statsReading Readings.probReading Readings.evidenceReading trainAsked Training.trainRefusal Training.sizesRefusal Training.inputFits Training.pathIn Training.recountStats Training.recordsFrom Training.sequenceRecords Training.allRecords Training.addRecords addAll baselineReading statsRefusal baselineFits pastOneKnot rising risesAt allBelow figuresAt figuresAfter notAbove knotFigures lineFigures toMeanVar interpolated sumsAt putSums added flatMap add sub mul div ofInt ofBits
-rows-hold = (refl, refl, refl, refl, refl, refl, refl, refl, refl, refl, refl, refl, refl, refl, refl, refl, refl, refl, refl, refl, refl, refl, refl, refl, refl, refl, refl, refl, refl)
+rows-hold = (refl, refl, refl, refl, refl, refl, refl, refl, refl, refl, refl, refl, refl, refl, refl, refl, refl, refl, refl, refl, refl, refl, refl, refl, refl, refl, refl, refl, refl, refl, refl, refl, refl)
