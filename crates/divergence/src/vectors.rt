@@ -127,8 +127,8 @@ fn evidence_vector(
     }
 }
 
-// The probabilities of the node's children and of its ending, of prior and evidence: 3 to 7, 9 and 13. None where the address has no
-// prior.
+// The probabilities of the node's children and of its ending, of prior and evidence: 3 to 7, 22, 9 and 13. None where the address has
+// no prior.
 pub fn prob_vector(
     t: Tracker,
     book: &[u8],
