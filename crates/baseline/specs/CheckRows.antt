@@ -1,4 +1,4 @@
--- The kit's check rows marked *, and where minus zero comes out of `stats` and where it does not: each row is an equation about the definitions that the functions'
+-- The kit's check rows marked *, rows with a floor and of a child's look-up, and where minus zero comes out of `stats` and where it does not: each row is an equation about the definitions that the functions'
 -- contracts cite, figures by `≡`, and one proof shows that all hold. Assumes nothing.
 use mathlib.Core.Path.{_≡_, refl}
 use mathlib.Core.List.{List, [], _∷_, _++_, map, flatMap}
@@ -16,6 +16,8 @@ use Rattle.priors.specs.Tables.{LentTables, lentTables}
 use Rattle.priors.specs.Floors.{leastFloor}
 use Rattle.priors.specs.Priors.{LentPriors, lentPriors, layerOf, Counts, priorsRefusal}
 use Rattle.priors.specs.Priors as Priors
+use Rattle.priors.specs.Children as Children
+use Rattle.priors.specs.Children.{ChildLook, childAsked}
 use Rattle.book.specs.Keys.{keyOf, endKey, childKey, nodeOf, kindOf, childOf}
 use Rattle.book.specs.Entries as Entries
 use Rattle.book.specs.Path.{stepsOf, wholePath, listedKeys, countedKeys}
@@ -95,6 +97,16 @@ statsUnder floor =
 -- the number of priors that have a record at (-4,7), too
 abbrev pub twoUnder : ℤ → ℕ
 twoUnder floor = priorsRefusal (fineNodes ++ (addressOn 4294967292 7 ++ (wordBytes 1 ++ wordBytes 1))) children (layerOf floor)
+
+-- a child of a node in the first priors, and in those whose node has no children
+abbrev pub childOfNode : ℕ → ℕ → Reading ChildLook
+childOfNode node child = childAsked (lentPriors nodes children leastFloor) node child
+
+abbrev pub childOfNone : ℕ → Reading ChildLook
+childOfNone child = childAsked (lentPriors (addressOn 1 7 ++ (wordBytes 1 ++ wordBytes 0)) [] leastFloor) (rank 1 7) child
+
+abbrev pub looked : Option ℕ → ℕ → Reading ChildLook
+looked count read = answered (record { count = count; read = read })
 
 -- an output of three places, with 5 in every byte and every figure
 abbrev pub fives : Output
@@ -220,6 +232,15 @@ Rows =
     -- records at (-5,7) and (-4,7): 22 with floor -3, none with floor -4
     × (twoUnder (negsuc 2) ≡ 22)
     × (twoUnder (negsuc 3) ≡ 0)
+    -- children of (1,7), count and records read: (0,7) 2 and 1, (0,9) 3 and 2; none of (-1,9) and 1, before the first, of (0,8) and 2, between, of (1,0) and 2, past the last
+    × (childOfNode (rank 1 7) (rank 0 7) ≡ looked (some 2) 1)
+    × (childOfNode (rank 1 7) (rank 0 9) ≡ looked (some 3) 2)
+    × (childOfNode (rank 1 7) (rank 4294967295 9) ≡ looked none 1)
+    × (childOfNode (rank 1 7) (rank 0 8) ≡ looked none 2)
+    × (childOfNode (rank 1 7) (rank 1 0) ≡ looked none 2)
+    -- none and 0: in an empty chain, and where the node has no prior
+    × (childOfNone (rank 0 7) ≡ looked none 0)
+    × (childOfNode (rank 0 9) (rank 0 7) ≡ looked none 0)
     -- first add, book of two entries: 12; of three: taken
     × (firstAdd 2 ≡ 12)
     × (firstAdd 3 ≡ 0)
@@ -250,5 +271,5 @@ Rows =
     × (baselineReading [] [] 1 0 ≡ alike zero64 zero64)
 
 pub rows-hold : Rows
-unfolding le word store lift rank addressOf change countOf Tables.entriesFit Tables.entryFits Tables.lengthsFit Tables.tablesRefusal Priors.ascends Priors.ascendsAfter Priors.chain Priors.chainAscends Priors.chainFits Priors.chainOf Priors.clearBefore Priors.countFits Priors.countSum Priors.findRecord Priors.firstLinkFits Priors.foundBy Priors.nextLinkFits Priors.onePoint Priors.pointsDiffer Priors.priorOf Priors.priorsRefusal Priors.recordAt Priors.records Priors.total Priors.totalFits Priors.wholeRecords keyOf endKey childKey nodeOf kindOf childOf Entries.bytesOf Entries.rowAt Entries.keyAt Entries.rowBytes Entries.rows stepsOf wholePath listedKeys countedKeys Form.bookFits Form.follows Form.formed Form.formedAfter Form.inForm Form.lengthsFit Form.plain Form.queueFits Form.stateFits changeAll addRows Calls.addBook Calls.addNumber Calls.addQueue Calls.addState Calls.bookAfter Calls.leaving Calls.openBook Calls.openNumber Calls.openQueue Calls.openState Calls.placeBytes Calls.queueWith Calls.rowsAfter Calls.stateAfter Paths.total Paths.transitions Paths.endings Recount.windowPart Recount.sequenceLength Recount.enter Recount.enterAll Recount.listing Claims.addRefusal bookStep runs spread listedNodes evidenceOf RecountNodes.nodesListed RecountNodes.followers RecountNodes.childrenListed RecountNodes.nodeCounted RecountNodes.recountNodes Divergence.childTerms Divergence.closed Divergence.divergence Divergence.endingTerm Divergence.lacksChild Divergence.noLess Divergence.nodeDivergence Divergence.term Walks.counted Walks.noted Walks.statsOver Walks.walk Probability.evidenceProbVector Probability.posterior Probability.probVector Probability.withEvidence Probability.withTotal Readings.filledAddresses Readings.filledFigures Readings.withPrior Readings.klReading Readings.allReading Readings.statsReading Readings.probReading Readings.evidenceReading trainAsked Training.trainRefusal Training.sizesRefusal Training.inputFits Training.pathIn Training.recountStats Training.recordsFrom Training.sequenceRecords Training.allRecords Training.addRecords addAll baselineReading statsRefusal baselineFits pastOneKnot rising risesAt allBelow figuresAt figuresAfter notAbove knotFigures lineFigures toMeanVar interpolated sumsAt putSums added flatMap add sub mul div ofInt ofBits
-rows-hold = (refl, refl, refl, refl, refl, refl, refl, refl, refl, refl, refl, refl, refl, refl, refl, refl, refl, refl, refl, refl, refl, refl, refl, refl, refl, refl, refl, refl, refl, refl, refl, refl, refl)
+unfolding le word store lift rank addressOf change countOf Tables.entriesFit Tables.entryFits Tables.lengthsFit Tables.tablesRefusal Priors.ascends Priors.ascendsAfter Priors.chain Priors.chainAscends Priors.chainFits Priors.chainOf Priors.clearBefore Priors.countFits Priors.countSum Priors.findRecord Priors.firstLinkFits Priors.foundBy Priors.nextLinkFits Priors.onePoint Priors.pointsDiffer Priors.priorOf Priors.priorsRefusal Priors.recordAt Priors.records Priors.total Priors.totalFits Priors.wholeRecords Children.belowIn Children.readsOf keyOf endKey childKey nodeOf kindOf childOf Entries.bytesOf Entries.rowAt Entries.keyAt Entries.rowBytes Entries.rows stepsOf wholePath listedKeys countedKeys Form.bookFits Form.follows Form.formed Form.formedAfter Form.inForm Form.lengthsFit Form.plain Form.queueFits Form.stateFits changeAll addRows Calls.addBook Calls.addNumber Calls.addQueue Calls.addState Calls.bookAfter Calls.leaving Calls.openBook Calls.openNumber Calls.openQueue Calls.openState Calls.placeBytes Calls.queueWith Calls.rowsAfter Calls.stateAfter Paths.total Paths.transitions Paths.endings Recount.windowPart Recount.sequenceLength Recount.enter Recount.enterAll Recount.listing Claims.addRefusal bookStep runs spread listedNodes evidenceOf RecountNodes.nodesListed RecountNodes.followers RecountNodes.childrenListed RecountNodes.nodeCounted RecountNodes.recountNodes Divergence.childTerms Divergence.closed Divergence.divergence Divergence.endingTerm Divergence.lacksChild Divergence.noLess Divergence.nodeDivergence Divergence.term Walks.counted Walks.noted Walks.statsOver Walks.walk Probability.evidenceProbVector Probability.posterior Probability.probVector Probability.withEvidence Probability.withTotal Readings.filledAddresses Readings.filledFigures Readings.withPrior Readings.klReading Readings.allReading Readings.statsReading Readings.probReading Readings.evidenceReading trainAsked Training.trainRefusal Training.sizesRefusal Training.inputFits Training.pathIn Training.recountStats Training.recordsFrom Training.sequenceRecords Training.allRecords Training.addRecords addAll baselineReading statsRefusal baselineFits pastOneKnot rising risesAt allBelow figuresAt figuresAfter notAbove knotFigures lineFigures toMeanVar interpolated sumsAt putSums added flatMap add sub mul div ofInt ofBits
+rows-hold = (refl, refl, refl, refl, refl, refl, refl, refl, refl, refl, refl, refl, refl, refl, refl, refl, refl, refl, refl, refl, refl, refl, refl, refl, refl, refl, refl, refl, refl, refl, refl, refl, refl, refl, refl, refl, refl, refl, refl, refl)

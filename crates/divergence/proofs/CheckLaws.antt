@@ -4,7 +4,6 @@ use mathlib.Core.Bool.{Bool, true, false, cond, _&&_}
 use Prim.Native.Nat.{ℕ, zero, suc, _*_, _%_, _≤_}
 use native.Mathlib.Omega.{arith}
 use mathlib.Core.List.{List}
-use mathlib.Core.Option.{none}
 use lib.Ieee.{Float}
 use lib.Dec.{eqb, leb}
 use lib.ListN.{length}
@@ -14,7 +13,7 @@ use Rattle.priors.specs.Refusals.{numberOf, namedNode}
 use Rattle.priors.specs.Tables.{tablesRefusal}
 use Rattle.priors.specs.Priors.{priorsRefusal}
 use Rattle.priors.proofs.BelowLaws.{second-true}
-use Rattle.priors.proofs.RuleLaws.{namesNone, tables-keep, priors-keep, some-number, by-number, unnamed}
+use Rattle.priors.proofs.RuleLaws.{namesNone, tables-keep, some-number, priors-unnamed, unless-refused}
 use Rattle.book.specs.declared.trackers.Tracker.{Tracker}
 use Rattle.book.specs.Limits.{maxEntries}
 use Rattle.book.specs.Form.{bookFits, capacity, formed, inForm}
@@ -28,9 +27,6 @@ use Rattle.divergence.specs.Checks.{orElse, checksRefusal}
 or-keeps : (test : ℕ → Bool) (a b : ℕ) → test a ≡ true → test b ≡ true → test (orElse a b) ≡ true
 or-keeps test zero b h l = l
 or-keeps test (suc a) b h l = h
-
-pub priors-unnamed : (nodes children : List ℕ) (layer : ℕ) → namesNone (priorsRefusal nodes children layer) ≡ true
-priors-unnamed nodes children layer = priors-keep namesNone nodes children layer refl refl
 
 form-unnamed : (b : Bool) → namesNone (cond b 0 9) ≡ true
 form-unnamed true = refl
@@ -75,11 +71,6 @@ form-number false h = cc
 pub form-broken : (b : Bool) → b ≡ false → _≡_ {A = ℕ} 9 (cond b 0 9)
 form-broken true h = cc
 form-broken false h = refl
-
--- a refusal that names no node, with the number of a check, is what the check answers
-pub unless-refused : {X : Type 0} (q : Refusal) (n : ℕ) (r : Reading X) → numberOf q ≡ n → namesNone n ≡ true → refused (numberOf q) (namedNode q) ≡ unless n r
-unless-refused q n r e h =
-    ap (refused (numberOf q)) (unnamed q (ap namesNone e ∙ h)) ∙ by-number (λ m. refused m none) (λ m. unless m r) (λ m. refl) q ∙ ap (λ (m : ℕ). unless m r) e
 
 -- the form keeps used entries within the limit
 pub form-few : (t : Tracker) (book queue : List ℕ) → inForm t book queue ≡ true → t .used ≤ maxEntries

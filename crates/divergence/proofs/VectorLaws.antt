@@ -13,6 +13,7 @@ use Rattle.priors.specs.Below.{allBelow}
 use Rattle.priors.specs.Refusals.{numberOf, namedNode}
 use Rattle.priors.specs.Rows.{keys, Ascends}
 use Rattle.priors.specs.Priors.{Counts, recordCount, records, chain, chainOf, everyChild, nextLinkFits, priorOfNode, findRecord, priorOf, total, priorsRefusal}
+use Rattle.priors.proofs.RuleLaws.{priors-unnamed, unless-refused}
 use Rattle.book.specs.declared.trackers.Tracker.{Tracker}
 use Rattle.book.specs.Entries.{rows, countAt}
 use Rattle.book.specs.Form.{inForm}
@@ -24,7 +25,7 @@ use Rattle.divergence.specs.Merge.{childEntries, mergedFrom, mergedCount
 use Rattle.divergence.specs.Listing.{ListedAt, Usable}
 use Rattle.divergence.specs.Readings.{refused, nothing, answered, unless, vectorReading, probReading, evidenceReading}
 use Rattle.divergence.proofs.MergeLaws.{evidence-alone}
-use Rattle.divergence.proofs.CheckLaws.{priors-unnamed, unless-refused, form-few}
+use Rattle.divergence.proofs.CheckLaws.{form-few}
 
 -- ---- 13
 

@@ -1,6 +1,6 @@
 -- What each reading answers, and what the lent outputs hold afterwards. The checks come in this order: tables, priors, the tracker's form, then the
 -- reading itself on a list of nodes. `form` is 9 where the tracker's form is broken, else 0; `layer` is the number of scales below the floor. Assumes nothing.
-use Prim.Native.Nat.{ℕ, zero, suc, _+_, _*_, _/_, min}
+use Prim.Native.Nat.{ℕ, _+_, _*_, _/_, min}
 use mathlib.Core.Bool.{cond}
 use mathlib.Core.List.{List, [], _∷_, _++_, map, flatMap}
 use mathlib.Core.Option.{Option, none, some}
@@ -23,29 +23,8 @@ use Rattle.divergence.specs.Nodes.{Node, listedNodes, evidenceOf}
 use Rattle.divergence.specs.Probability.{figuresOf, probVector, evidenceProbVector}
 use Rattle.divergence.specs.Divergence.{nodeDivergence}
 use Rattle.divergence.specs.Statistics.{Place, Walk, stopped, walked, walk, noStats, statsOver}
-
--- an answer: a refusal with its number and the node that 14 and 15 name, none, or the answer itself
-pub data Reading (X : Type 0) : Type 0 where
-  refused : ℕ → Option Address → Reading X
-  nothing : Reading X
-  answered : X → Reading X
-
--- a part of an answer, or what stood there before
-abbrev pub written : {X Y : Type 0} → (X → Y) → Reading X → Y → Y
-written part (refused n node) before = before
-written part nothing before = before
-written part (answered x) before = part x
-
--- a part of an answer as an answer
-abbrev pub mapped : {X Y : Type 0} → (X → Y) → Reading X → Reading Y
-mapped part (refused n node) = refused n node
-mapped part nothing = nothing
-mapped part (answered x) = answered (part x)
-
--- a check that refuses with a number, 0 for none
-abbrev pub unless : {X : Type 0} → ℕ → Reading X → Reading X
-unless zero r = r
-unless (suc n) r = refused (suc n) none
+-- an answer: a refusal, none, or the answer itself; its parts; a check before it
+pub use Rattle.priors.specs.Reading.{Reading, refused, nothing, answered, written, mapped, unless}
 
 -- the tracker's form: 9 where it is broken
 abbrev pub formRefusal : Tracker → List ℕ → List ℕ → ℕ

@@ -51,7 +51,9 @@ fn lacks(children: &[u8], first: u32, rank: u64) -> bool
     requires { ⌜ ascends (chainOf (now children) first) ≡ true ⌝ }
     ensures { λ r. ⌜ r ≡ isNone (countOf rank (childrenOf (now (children .entry)) first)) ⌝ }
 {
-    match find_child(children, first, rank) {
+    let looked = find_child(children, first, rank);
+    let found = looked.found;
+    match found {
         ChildFound::Count(_) => false,
         ChildFound::NoChild => true,
     }
@@ -64,7 +66,9 @@ fn prior_count(children: &[u8], first: u32, rank: u64) -> u32
     requires { ⌜ ascends (chainOf (now children) first) ≡ true ⌝ }
     ensures { λ r. ⌜ r ≡ priorCount (countOf rank (childrenOf (now (children .entry)) first)) ⌝ }
 {
-    match find_child(children, first, rank) {
+    let looked = find_child(children, first, rank);
+    let found = looked.found;
+    match found {
         ChildFound::Count(a) => a,
         ChildFound::NoChild => 0,
     }

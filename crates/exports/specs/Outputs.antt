@@ -4,6 +4,7 @@ use mathlib.Core.List.{List, [], _∷_}
 use mathlib.Core.Option.{Option, none, some}
 use lib.ListN.{getD}
 use lib.Ieee.{Float}
+use Rattle.priors.specs.Children.{ChildLook}
 use Rattle.book.specs.declared.trackers.Tracker.{Tracker}
 use Rattle.book.specs.declared.trackers.Opened.{Opened}
 use Rattle.book.specs.declared.trackers.Added.{Added}
@@ -41,6 +42,12 @@ addedNumbers (NotAdded r t) before = before
 
 abbrev pub keptNumbers : BookAnswer → List ℕ → List ℕ
 keptNumbers a before = unlessRefused (a .number) (numbersOr (a .state) before) before
+
+-- ---- a child's look-up
+
+-- the number of child records read
+abbrev pub readOf : ChildLook → ℕ
+readOf l = l .read
 
 -- ---- readings
 

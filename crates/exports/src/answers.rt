@@ -1,13 +1,15 @@
 // Each answer of the watch as a code, with its parts in lent numbers. An answer writes them all; none and a refusal write nothing,
-// but 14 and 15 write their node.
+// but 14 and 15 write their node, and a child that is not there the number of records read.
 ghost use mathlib.Core.Path.{_≡_};
 ghost use Rattle.priors.specs.Refusals.{checkedNumber, namedNode};
+ghost use Rattle.priors.specs.Children.{countTold};
+ghost use Rattle.priors.specs.Lookups.{childAnswer};
 ghost use Rattle.book.specs.Calls.{openedNumber, addedNumber};
 ghost use Rattle.divergence.specs.Answers.{vectorAnswer, klAnswer, allAnswer, statsAnswer};
 ghost use Rattle.baseline.specs.Training.{trainAnswer};
 ghost use Rattle.baseline.specs.Stats.{baselineAnswer};
 ghost use Rattle.exports.specs.Codes.{code, written, scaleOr, pointOr, scaleNamed, pointNamed};
-ghost use Rattle.exports.specs.Outputs.{trackerOf, openedNumbers, addedNumbers, placesOf, endingOf, itself, allCounts, fourFigures, threeCounts, tenFigures};
+ghost use Rattle.exports.specs.Outputs.{trackerOf, openedNumbers, addedNumbers, readOf, placesOf, endingOf, itself, allCounts, fourFigures, threeCounts, tenFigures};
 use baseline::baselines::BaselineStats;
 use baseline::training::Trained;
 use book::trackers::Added;
@@ -17,6 +19,8 @@ use divergence::answers::AllNodeKl;
 use divergence::answers::KlDivStats;
 use divergence::answers::NodeKl;
 use divergence::answers::ProbVector;
+use priors::children::ChildAnswer;
+use priors::lookups::ChildFound;
 use priors::refusals::Checked;
 use priors::refusals::Refusal;
 use priors::refusals::number;
@@ -56,6 +60,27 @@ pub fn tell_checked(answer: Checked) -> u32
     match answer {
         Checked::Passed => 0,
         Checked::Refused(r) => number(r),
+    }
+}
+
+pub fn tell_child(answer: ChildAnswer, count: &mut u32, read: &mut u32) -> u32
+    ensures { λ r. ⌜ r ≡ code (countTold (childAnswer answer)) ⌝ }
+    ensures { λ _. ⌜ now (count .exit) ≡ written itself (countTold (childAnswer answer)) (now (count .entry)) ⌝ }
+    ensures { λ _. ⌜ now (read .exit) ≡ written readOf (childAnswer answer) (now (read .entry)) ⌝ }
+{
+    match answer {
+        ChildAnswer::Looked(l) => {
+            *read = l.read;
+            let found = l.found;
+            match found {
+                ChildFound::Count(c) => {
+                    *count = c;
+                    0
+                }
+                ChildFound::NoChild => NONE,
+            }
+        }
+        ChildAnswer::NotLooked(r) => number(r),
     }
 }
 

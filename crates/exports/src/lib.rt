@@ -2,6 +2,7 @@
 // there is no answer, else the refusal's number.
 pub mod answers; // an answer told as a code and lent numbers
 pub mod checks; // tables and priors by themselves
+pub mod lookups; // a child in its node's prior
 pub mod trackers; // opening a tracker, adding a path
 pub mod readings; // probabilities, divergences and their statistics
 pub mod baselines; // training, and a baseline's figures at a length

@@ -25,8 +25,8 @@ use priors::tables::check_tables;
 // The letters TPP1.
 const MAGIC: u32 = 827347028;
 
-// The words of a look-up: two addresses and five numbers.
-const LOOKUP_WORDS: usize = 9;
+// The words of a look-up: two addresses and six numbers.
+const LOOKUP_WORDS: usize = 10;
 
 // What a look-up finds; zeros for what is not there.
 struct Looked {
@@ -35,6 +35,7 @@ struct Looked {
     children: u32,
     is_child: u32,
     count: u32,
+    read: u32,
 }
 
 // The number of a check, 0 where nothing is refused.
@@ -74,23 +75,30 @@ fn look_up(nodes: &[u8], children: &[u8], layer: u32, node: u64, child: u64) -> 
             children: 0,
             is_child: 0,
             count: 0,
+            read: 0,
         },
-        NodeFound::Node(r) => match find_child(children, r.link, child) {
-            ChildFound::NoChild => Looked {
-                is_node: 1,
-                singleton: r.count,
-                children: chain_length(children, r.link),
-                is_child: 0,
-                count: 0,
-            },
-            ChildFound::Count(count) => Looked {
-                is_node: 1,
-                singleton: r.count,
-                children: chain_length(children, r.link),
-                is_child: 1,
-                count,
-            },
-        },
+        NodeFound::Node(r) => {
+            let looked = find_child(children, r.link, child);
+            let found = looked.found;
+            match found {
+                ChildFound::NoChild => Looked {
+                    is_node: 1,
+                    singleton: r.count,
+                    children: chain_length(children, r.link),
+                    is_child: 0,
+                    count: 0,
+                    read: looked.read,
+                },
+                ChildFound::Count(count) => Looked {
+                    is_node: 1,
+                    singleton: r.count,
+                    children: chain_length(children, r.link),
+                    is_child: 1,
+                    count,
+                    read: looked.read,
+                },
+            }
+        }
     }
 }
 
@@ -101,6 +109,7 @@ fn same_numbers(tape: &[u8], at: usize, l: Looked) -> bool {
         && word(tape, forward(at, 2)) == l.children
         && word(tape, forward(at, 3)) == l.is_child
         && word(tape, forward(at, 4)) == l.count
+        && word(tape, forward(at, 5)) == l.read
 }
 
 fn same_lookup(tape: &[u8], at: usize, nodes: &[u8], children: &[u8], layer: u32) -> bool

@@ -37,7 +37,7 @@ unfolding ascendsAfter
 rows-after k [] h = tt
 rows-after k (r ∷ rs) h = let b = both (ltb k (r .rank)) (ascendsAfter (r .rank) rs) h in (ltb-true k (r .rank) (b .0), rows-after (r .rank) rs (b .1))
 
-rows-ascend : (rs : List Record) → ascends rs ≡ true → Ascends 0 (keys (map (λ (r : Record). row (r .rank) (r .count)) rs))
+pub rows-ascend : (rs : List Record) → ascends rs ≡ true → Ascends 0 (keys (map (λ (r : Record). row (r .rank) (r .count)) rs))
 unfolding ascends
 rows-ascend [] h = tt
 rows-ascend (r ∷ rs) h = (zero-le, rows-after (r .rank) rs h)

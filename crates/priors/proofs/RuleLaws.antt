@@ -1,4 +1,5 @@
--- Which numbers a list of rules can give, and what a refusal's number says of it: it is not 0, and only 14 and 15 name a node. Assumes nothing.
+-- Which numbers a list of rules can give, and what a refusal's number says of it: it is not 0, and only 14 and 15 name a node; so
+-- what a check refuses is an answer. Assumes nothing.
 use mathlib.Core.Path.{_≡_, refl, sym, ap, _∙_}
 use Prim.Native.Nat.{ℕ, suc}
 use native.Mathlib.Omega.{arith}
@@ -14,6 +15,7 @@ use Rattle.priors.specs.declared.refusals.Reason.the-variants.{TableLeng
 use Rattle.priors.specs.declared.refusals.NodeReason.the-variants.{MissingChild, PastTable}
 use Rattle.priors.specs.Rules.{Rule, firstBroken}
 use Rattle.priors.specs.Refusals.{reasonNumber, numberOf, namedNode}
+use Rattle.priors.specs.Reading.{Reading, refused, unless}
 use Rattle.priors.specs.Tables.{tableRules, tablesRefusal}
 use Rattle.priors.specs.Priors.{priorRules, priorsRefusal}
 use Rattle.priors.proofs.Tests.{both}
@@ -84,3 +86,13 @@ pub unnamed : (r : Refusal) → namesNone (numberOf r) ≡ true → namedNode r 
 unnamed (Plain reason) h = refl
 unnamed (AtNode MissingChild node) h = let z : _≡_ {A = ℕ} 0 1 = cc in absurd (omega arith)
 unnamed (AtNode PastTable node) h = let z : _≡_ {A = ℕ} 0 1 = cc in absurd (omega arith)
+
+-- ---- a check's refusal as an answer
+
+pub priors-unnamed : (nodes children : List ℕ) (layer : ℕ) → namesNone (priorsRefusal nodes children layer) ≡ true
+priors-unnamed nodes children layer = priors-keep namesNone nodes children layer refl refl
+
+-- a refusal that names no node, with the number of a check, is what the check answers
+pub unless-refused : {X : Type 0} (q : Refusal) (n : ℕ) (r : Reading X) → numberOf q ≡ n → namesNone n ≡ true → refused (numberOf q) (namedNode q) ≡ unless n r
+unless-refused q n r e h =
+    ap (refused (numberOf q)) (unnamed q (ap namesNone e ∙ h)) ∙ by-number (λ m. refused m none) (λ m. unless m r) (λ m. refl) q ∙ ap (λ (m : ℕ). unless m r) e

@@ -8,3 +8,4 @@ pub mod places; // where node records of an address begin
 pub mod layers; // number 22: points below the floor
 pub mod checks; // the rules for prior records
 pub mod lookups; // a node by its address or its point, a child along a chain
+pub mod children; // a child in its node's prior, for a user

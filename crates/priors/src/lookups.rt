@@ -1,5 +1,5 @@
 // Looking up a node by its exact address, by halving, or in the layer below the floor by its point; a child by its own address along
-// its node's chain, which ascends, so that the walk ends where an address is past the one wanted; and a prior's total.
+// its node's chain, which ascends, so that the walk ends with the first address that is not below the one wanted; and a prior's total.
 ghost use mathlib.Core.Path.{_≡_};
 ghost use mathlib.Core.Bool.{true};
 ghost use Prim.Native.Nat.{_≤_};
@@ -9,6 +9,7 @@ ghost use Rattle.priors.specs.Rows.{countOf};
 ghost use Rattle.priors.specs.Priors.{records, recordCount, ascends, pointsDiffer, findRecord, chainOf, childrenOf, everyChild, nextLinkFits, priorOfNode, total};
 ghost use Rattle.priors.specs.Layer.{Absent, FoundAt};
 ghost use Rattle.priors.specs.Lookups.{nodeFound, childFound};
+ghost use Rattle.priors.specs.Children.{readsOf};
 use crate::places::first_from;
 use crate::places::halve;
 use crate::records::RECORD_SIZE;
@@ -23,6 +24,12 @@ pub enum NodeFound {
 pub enum ChildFound {
     Count(u32),
     NoChild,
+}
+
+// What the look-up of a child found, and how many records of the chain it read.
+pub struct ChildLookup {
+    pub found: ChildFound,
+    pub read: u32,
 }
 
 // What a look-up finds where no record has this rank: in the layer the record with its point. It goes group by group of one scale, in
@@ -87,25 +94,38 @@ pub fn find_node(nodes: &[u8], layer: u32, rank: u64) -> NodeFound
     NodeFound::Node(record_at(nodes, at))
 }
 
-// The count of the child with this address in the chain that `first` starts.
-pub fn find_child(children: &[u8], first: u32, rank: u64) -> ChildFound
+// The count of the child with this address in the chain that `first` starts, and the number of records read: the walk ends with the
+// first that is not below the address.
+pub fn find_child(children: &[u8], first: u32, rank: u64) -> ChildLookup
     requires { ⌜ first ≤ recordCount (now children) ⌝ }
     requires { ⌜ everyChild (now children) (nextLinkFits (now children)) ≡ true ⌝ }
     requires { ⌜ ascends (chainOf (now children) first) ≡ true ⌝ }
-    ensures { λ r. ⌜ childFound r ≡ countOf rank (childrenOf (now (children .entry)) first) ⌝ }
+    ensures { λ r. ⌜ childFound (r .found) ≡ countOf rank (childrenOf (now (children .entry)) first) ⌝ }
+    ensures { λ r. ⌜ r .read ≡ readsOf rank (childrenOf (now (children .entry)) first) ⌝ }
 {
-    let mut link = first as usize;
+    let mut link = first;
+    let mut read = 0;
     while link != 0 {
-        let next = record_at(children, link - 1);
+        let next = record_at(children, link as usize - 1);
+        read += 1;
         if rank < next.rank {
-            return ChildFound::NoChild;
+            return ChildLookup {
+                found: ChildFound::NoChild,
+                read,
+            };
         }
         if next.rank == rank {
-            return ChildFound::Count(next.count);
+            return ChildLookup {
+                found: ChildFound::Count(next.count),
+                read,
+            };
         }
-        link = next.link as usize;
+        link = next.link;
     }
-    ChildFound::NoChild
+    ChildLookup {
+        found: ChildFound::NoChild,
+        read,
+    }
 }
 
 // The total of a node's prior.

@@ -36,8 +36,8 @@ enum-told-2 c = search needs
 chain-length-requires : tie.Need-chain-length-requires
 chain-length-requires c κs = search needs
 
-enum-known-count : tie.Need-enum-known-count
-enum-known-count c = search needs
+enum-known-found : tie.Need-enum-known-found
+enum-known-found c = search needs
 
 chain-length-requires-2 : tie.Need-chain-length-requires-2
 chain-length-requires-2 c κs = search needs
@@ -61,7 +61,7 @@ look-up-spec =
     find-child-requires
     enum-told-2
     chain-length-requires
-    enum-known-count
+    enum-known-found
     chain-length-requires-2
     returns
     returns-2
