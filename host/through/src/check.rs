@@ -86,7 +86,7 @@ fn one_call(
     let answer = play(archive, call, fill)?;
     let recounted = history.play(call);
     tally.answer(&recounted);
-    tally.floors.reading(call, &recounted, &history.side, &history.priors);
+    tally.met.reading(call, &recounted, &history.side, &history.priors);
     must(recounted.same(&answer), || differ("answer", &recounted, &answer))?;
     if let Answer::Changed(Ok(())) = answer {
         let side = &history.side;
@@ -115,7 +115,7 @@ pub fn altered(
         let answer = play(archive, &call, 0)?;
         let recounted = read_altered(add, &call, tables, priors);
         tally.answer(&recounted);
-        tally.floors.reading(&call, &recounted, &add.memory(), priors);
+        tally.met.reading(&call, &recounted, &add.memory(), priors);
         must(recounted.same(&answer), || {
             format!("{:?} on {:?}\n{}", call, add, differ("answer", &recounted, &answer))
         })?;
@@ -184,7 +184,7 @@ pub fn training(archive: &mut Archive, training: &Training, tally: &mut Tally) -
     let mut ours = training.clone();
     let recounted = ours.run();
     tally.result(&recounted);
-    tally.floors.training(training, recounted);
+    tally.met.training(training, recounted);
     must(recounted == answer, || format!("{:#?}\n{}", training, differ("answer", recounted, answer)))?;
     let same = ours.book == left.book && ours.knots == left.knots && same_figures(&ours.values, &left.values);
     must(same, || format!("{:#?}\n{}", training, differ("book, knots and values", &ours, &left)))?;

@@ -105,7 +105,7 @@ fn everything(given: &Arguments) -> Result<(Tally, u64), String> {
         tally.join(&counted);
         calls += made;
     }
-    tally.met_floors()?;
+    tally.met_all()?;
     Ok((tally, calls))
 }
 
