@@ -5,6 +5,7 @@ use crate::calls::{Archive, Held, Told};
 use cases::altered::AlteredAdd;
 use cases::baselines::{StatsAsked, Training};
 use cases::calls::{Call, CallList, Places, PriorBytes, Tables};
+use cases::lookups::PriorsCase;
 use cases::play::{same_result, Answer, History, Player, Side};
 use compare::goko::{self, Beside};
 use compare::{Compared, Tally};
@@ -223,4 +224,22 @@ pub fn priors(archive: &mut Archive, priors: &PriorBytes, tally: &mut Tally) -> 
     tally.result(&recounted);
     must(recounted == answer, || format!("{:?}\n{}", priors, differ("priors", recounted, answer)))?;
     must(archive.lends_priors(priors), || "the archive changed lent priors".to_string())
+}
+
+/// Look-ups of children in priors.
+pub fn lookups(archive: &mut Archive, case: &PriorsCase, tally: &mut Tally) -> Compared {
+    archive.lend_priors(&case.priors);
+    let checked = check_priors(case.priors.lent());
+    let mut answers = Vec::new();
+    for ((node, child), recounted) in case.asked.iter().zip(case.answers(&checked)) {
+        let answer = archive.child(*node, *child)?;
+        tally.result(&recounted);
+        tally.met.looked_up(&checked, *node, *child);
+        must(recounted == answer, || {
+            format!("{:?} in {:?}\n{}", (node, child), case.priors, differ("look-up", recounted, answer))
+        })?;
+        answers.push(answer);
+    }
+    must(archive.lends_priors(&case.priors), || "the archive changed lent priors".to_string())?;
+    goko::hold_lookups(case, &answers, tally)
 }
