@@ -1,8 +1,9 @@
 //! Every short list over two addresses: all paths of up to `steps` steps, all lists of `adds`
 //! of them, for given windows and capacities, with all readings at the end. With a floor the two
-//! addresses have one point.
+//! addresses have one point. And every look-up in every chain over six addresses.
 
 use crate::calls::{Call, CallList, Places, PriorBytes, Tables};
+use crate::lookups::PriorsCase;
 use crate::rng::Rng;
 use crate::{priors, tables};
 use recount::limits::{ENTRY_BYTES, PLACE_BYTES};
@@ -63,6 +64,26 @@ pub fn under_floors() -> Vec<PriorBytes> {
         }
     }
     lent
+}
+
+/// Look-ups of every address of six in every chain of some of them, and of one before them all and one
+/// past them: under a node at each of three scales, whose record is at the middle one, with no floor,
+/// with one at the record's scale and with one past it.
+pub fn every_chain() -> Vec<PriorsCase> {
+    let nodes = [-1, 0, 1].map(|scale| Address::new(scale, 7));
+    let known: Vec<Address> =
+        nodes.iter().flat_map(|node| [3, 7].map(|point| Address::new(node.scale, point))).collect();
+    let wanted = [&known[..], &[Address::new(-2, 9), Address::new(2, 0)]].concat();
+    let asked: Vec<(Address, Address)> =
+        nodes.iter().flat_map(|node| wanted.iter().map(|child| (*node, *child))).collect();
+    let chosen = |choice: usize| -> Vec<Address> {
+        (0..known.len()).filter(|index| choice & (1 << index) != 0).map(|index| known[index]).collect()
+    };
+    let lent = |choice: usize, floor: i32| priors::one_chain((nodes[1], 1), &chosen(choice), floor);
+    (0..1 << known.len())
+        .flat_map(|choice| [i32::MIN, 0, 1].map(|floor| lent(choice, floor)))
+        .map(|priors| PriorsCase { priors, asked: asked.clone() })
+        .collect()
 }
 
 /// Calls `each` with every list of exactly `adds` paths.

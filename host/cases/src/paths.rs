@@ -18,6 +18,13 @@ pub fn universe(rng: &mut Rng, count: usize) -> Vec<Address> {
     different(count, || Address::new(rng.pick(&SCALES), rng.pick(&POINTS)))
 }
 
+/// `count` different addresses, at most 512, on scales next to each other that may have both signs, so
+/// that there are others before, between and after them.
+pub fn wide_universe(rng: &mut Rng, count: usize) -> Vec<Address> {
+    let first = rng.pick(&[-32, -63, 0, i32::MIN, i32::MAX - 63]);
+    different(count, || Address::new(first + rng.below(64) as i32, rng.pick(&POINTS)))
+}
+
 /// `count` different addresses of those that `next` gives.
 fn different(count: usize, mut next: impl FnMut() -> Address) -> Vec<Address> {
     let mut addresses: Vec<Address> = Vec::new();

@@ -3,9 +3,9 @@
 //! nodes, and damaged ones.
 
 use crate::calls::PriorBytes;
-use crate::paths::{below, floor, universe_around};
+use crate::paths::{below, floor, universe_around, wide_universe};
 use crate::rng::Rng;
-use recount::limits::{RECORD_BYTES, STEP_BYTES};
+use recount::limits::{MAX_CHAIN, RECORD_BYTES, STEP_BYTES};
 use recount::{record_bytes, Address};
 use std::collections::BTreeMap;
 use std::ops::Range;
@@ -72,6 +72,27 @@ fn records(rng: &mut Rng, universe: &[Address], most: usize, (nodes, children): 
     }
     lay_out(rng, &mut records, chains, most);
     records
+}
+
+/// A few nodes with chains of up to 64 children each, half of them with a floor.
+pub fn wide(rng: &mut Rng) -> PriorBytes {
+    let mut known = wide_universe(rng, MAX_CHAIN + 3);
+    let mut nodes: Vec<Address> = known.drain(..rng.between(1, 3)).collect();
+    nodes.sort();
+    let mut chains = Vec::new();
+    for index in 0..nodes.len() {
+        let length = rng.pick(&[0, 1, 2, 31, MAX_CHAIN - 1, MAX_CHAIN, MAX_CHAIN]);
+        let mut chain = known[..length].to_vec();
+        chain.sort();
+        chains.push((index, chain));
+        known.reverse();
+    }
+    let node = |address: Address| Record { address, count: 1 + address.point % 5, link: 0 };
+    let mut records = Records { nodes: nodes.into_iter().map(node).collect(), children: Vec::new() };
+    lay_out(rng, &mut records, chains, 1 << 20);
+    share_tails(rng, &mut records);
+    let floor = floor(rng, 50);
+    floored(rng, records.bytes(), floor)
 }
 
 /// Puts the chains' records down in a random mixture, each chain in its own order.
@@ -203,19 +224,25 @@ fn set_field(rng: &mut Rng, bytes: &mut [u8], field: usize) {
 
 /// The node (1,0) with a singleton count, and one child, (0,0) with 1.
 pub fn one_child(singleton_count: u32) -> PriorBytes {
-    let child = Record { address: Address::new(0, 0), count: 1, link: 0 };
-    let node = Record { address: Address::new(1, 0), count: singleton_count, link: 1 };
-    Records { nodes: vec![node], children: vec![child] }.bytes()
+    one_chain((Address::new(1, 0), singleton_count), &[Address::new(0, 0)], i32::MIN)
 }
 
-/// One node whose chain has `length` children, for the limit of 64.
+/// The node (1,0) whose chain has `length` children, for the limit of 64: half of them at the scale -1,
+/// the others at 0, with every second point.
 pub fn long_chain(length: usize) -> PriorBytes {
-    let child = |index: usize| Record {
-        address: Address::new(0, index as u32),
-        count: 1,
-        link: if index + 1 < length { index as u32 + 2 } else { 0 },
+    let scale = |index: usize| if index < length / 2 { -1 } else { 0 };
+    let child = |index: usize| Address::new(scale(index), 2 * index as u32 + 1);
+    one_chain((Address::new(1, 0), 0), &(0..length).map(child).collect::<Vec<_>>(), i32::MIN)
+}
+
+/// A node with its singleton count and a chain of these children, with counts from 1 up.
+pub fn one_chain((node, singleton): (Address, u32), children: &[Address], floor: i32) -> PriorBytes {
+    let child = |(index, address): (usize, &Address)| {
+        let own = index as u32 + 1;
+        let link = if index + 1 < children.len() { own + 1 } else { 0 };
+        Record { address: *address, count: own, link }
     };
-    let children = (0..length).map(child).collect();
-    let nodes = vec![Record { address: Address::new(1, 0), count: 0, link: 1 }];
-    Records { nodes, children }.bytes()
+    let nodes = vec![Record { address: node, count: singleton, link: u32::from(!children.is_empty()) }];
+    let children = children.iter().enumerate().map(child).collect();
+    PriorBytes { floor, ..Records { nodes, children }.bytes() }
 }

@@ -1,11 +1,12 @@
 //! The cases of the recorded sample in `vectors/`: fixed seeds, small sizes, so that a reader
-//! with fixed buffers can replay them. The comparison with goko runs the call lists, trainings and
-//! baselines among them.
+//! with fixed buffers can replay them. The comparison with goko runs the call lists, trainings,
+//! baselines and look-ups among them.
 
 use crate::altered::{altered_add, AlteredAdd};
 use crate::baselines::{self, StatsAsked, Training};
 use crate::calls::{Call, CallList, Places, PriorBytes, Tables};
 use crate::lists::{call_list, Shape};
+use crate::lookups::PriorsCase;
 use crate::paths::{below, floor, path, universe, universe_around};
 use crate::rng::Rng;
 use crate::{priors, tables};
@@ -184,27 +185,52 @@ pub fn table_cases() -> Vec<Tables> {
     balanced(7_000, (10, 10), made, |tables| refusal_number(check_tables(tables.lent())))
 }
 
-/// Priors with the nodes and children to look up in them.
-#[derive(Debug, Clone)]
-pub struct PriorsCase {
-    /// The priors.
-    pub priors: PriorBytes,
-    /// A node, and a child under it.
-    pub asked: Vec<(Address, Address)>,
-}
-
-/// Priors, good and refused.
+/// Priors, good and refused, with look-ups.
 pub fn priors_cases() -> Vec<PriorsCase> {
     let number = |case: &PriorsCase| refusal_number(check_priors(case.priors.lent()));
     let mut cases = balanced(8_000, (40, 10), random_priors, number);
-    for length in [63, 64, 65] {
-        let asked =
-            vec![(Address::new(1, 0), Address::new(0, 62)), (Address::new(1, 0), Address::new(0, 63))];
-        cases.push(PriorsCase { priors: priors::long_chain(length), asked });
-    }
+    cases.extend([
+        long_chain(63, &[(0, 125), (0, 126)]),
+        long_chain(64, &AROUND_64),
+        long_chain(65, &[(0, 129)]),
+    ]);
     cases.extend(balanced(8_500, (6, 2), floored_priors, number));
+    cases.push(children_below_a_floor());
     cases.extend([i32::MIN, i32::MIN + 1, i32::MAX - 1, i32::MAX].map(priors_at_the_ends));
     cases
+}
+
+/// Around the chain of 64, whose first children are (-1,1) and (-1,3) and whose last (0,125) and
+/// (0,127): those, what lies next to them, and their points at other scales.
+const AROUND_64: [(i32, u32); 12] = [
+    (i32::MIN, 127),
+    (-1, 0),
+    (-1, 1),
+    (-1, 2),
+    (-1, 3),
+    (-1, 127),
+    (0, 1),
+    (0, 125),
+    (0, 126),
+    (0, 127),
+    (0, 128),
+    (1, 1),
+];
+
+/// A long chain, and look-ups of children in it.
+fn long_chain(length: usize, children: &[(i32, u32)]) -> PriorsCase {
+    let under = |(scale, point): &(i32, u32)| (Address::new(1, 0), Address::new(*scale, *point));
+    PriorsCase { priors: priors::long_chain(length), asked: children.iter().map(under).collect() }
+}
+
+/// A record below the floor that a node's point alone finds, with two children of one point below the
+/// floor, of which each is found at its own scale.
+fn children_below_a_floor() -> PriorsCase {
+    let children = [Address::new(-5, 4), Address::new(-3, 4)];
+    let priors = priors::one_chain((Address::new(-3, 7), 1), &children, 0);
+    let asked = [(-1, -6), (-9, -5), (-1, -4), (-9, -3), (-1, -1), (0, -3)];
+    let under = |(node, child): (i32, i32)| (Address::new(node, 7), Address::new(child, 4));
+    PriorsCase { priors, asked: asked.map(under).to_vec() }
 }
 
 /// Priors with a floor, and look-ups of nodes at scales on both sides of it.

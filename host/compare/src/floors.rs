@@ -1,10 +1,11 @@
 //! What was met of floors: priors that the point alone found, what a floor keeps apart, and 22.
 
+use crate::met::Met;
 use cases::baselines::Training;
 use cases::calls::{Call, PriorBytes};
 use cases::play::Answer;
 use recount::{check_priors, Address, Priors, Refusal, Tracker};
-use std::collections::{BTreeMap, BTreeSet};
+use std::collections::BTreeSet;
 
 const BY_POINT: &str = "readings that find a prior by point alone";
 const SHARED: &str = "readings of all nodes in which two have one prior";
@@ -20,15 +21,7 @@ const PAST_32_BITS: &str = "calls not compared with goko, whose index of a layer
 const MET: [&str; 7] = [BY_POINT, SHARED, KEPT_APART, NAMED, CLASHES, TRAININGS, TRAINING_CLASHES];
 const MET_WITH_GOKO: [&str; 2] = [WITH_GOKO, PAST_32_BITS];
 
-/// How often each was met.
-#[derive(Debug, Default)]
-pub struct Floors(BTreeMap<&'static str, u64>);
-
-impl Floors {
-    fn count(&mut self, what: &'static str, met: bool) {
-        *self.0.entry(what).or_default() += u64::from(met);
-    }
-
+impl Met {
     /// Counts a reading of `tracker` that was lent `priors`.
     pub fn reading(&mut self, call: &Call, answer: &Answer, tracker: &impl Tracker, priors: &PriorBytes) {
         let refusal = answer.refusal();
@@ -63,34 +56,10 @@ impl Floors {
         self.count(WITH_GOKO, comparable && with_floor(priors).is_some_and(found));
         comparable
     }
-
-    /// Adds what another counted.
-    pub fn join(&mut self, other: &Floors) {
-        for (what, count) in &other.0 {
-            *self.0.entry(what).or_default() += count;
-        }
-    }
-
-    /// Prints how often each was met.
-    pub fn print(&self) {
-        println!("with floors:");
-        for what in to_be_met() {
-            println!("  {} {}", self.met(what), what);
-        }
-    }
-
-    /// What was not met at all.
-    pub fn missing(&self) -> Vec<&'static str> {
-        to_be_met().filter(|what| self.met(what) == 0).collect()
-    }
-
-    fn met(&self, what: &str) -> u64 {
-        self.0.get(what).copied().unwrap_or(0)
-    }
 }
 
 /// All that is to be met, as far as goko's sources are there.
-fn to_be_met() -> impl Iterator<Item = &'static str> {
+pub fn to_be_met() -> impl Iterator<Item = &'static str> {
     MET.into_iter().chain(MET_WITH_GOKO.into_iter().filter(|_| oracle::PRESENT))
 }
 
@@ -120,7 +89,7 @@ fn kept_apart(priors: &Priors, node: Address) -> bool {
 
 /// Whether goko's `scale - floor + 1` stays within 32 bits. Where no scale is below the floor the
 /// index is compared though it wraps, since it still tells all scales apart.
-fn has_layer(floor: i32, scale: i32) -> bool {
+pub fn has_layer(floor: i32, scale: i32) -> bool {
     let index = scale.checked_sub(floor).and_then(|above| above.checked_add(1));
     floor == i32::MIN || scale < floor || index.is_some()
 }

@@ -5,10 +5,11 @@
 use crate::{Compared, Tally};
 use cases::baselines::{StatsAsked, Training};
 use cases::calls::{Call, CallList, Places, PriorBytes};
+use cases::lookups::{Looked, PriorsCase};
 use cases::play::{Answer, History, Player, Side};
 use oracle::{Goko, NodeAddress, Panic};
 use recount::limits::{KNOT_VALUES, RECORD_BYTES};
-use recount::{check_priors, same_figure, Address, Evidence, Refusal, Tracker};
+use recount::{check_priors, same_figure, Address, ChildLookup, Evidence, Refusal, Tracker};
 
 /// goko's form of an address.
 fn node_address(address: Address) -> NodeAddress {
@@ -96,7 +97,7 @@ impl Beside {
         tally: &mut Tally,
     ) -> Compared {
         let answered = matches!(answer.refusal(), None | Some(Refusal { number: 14 | 15, .. }));
-        if answered && !tally.floors.goko_answers(&call.looked_up(&played.side), &played.priors) {
+        if answered && !tally.met.goko_answers(&call.looked_up(&played.side), &played.priors) {
             return Ok(());
         }
         match answer {
@@ -260,6 +261,44 @@ fn same_places(tally: &mut Tally, places: u32, output: &Places, theirs: Vec<(Nod
     Ok(())
 }
 
+/// Holds the answers to look-ups of children, where the priors are not refused, against goko's `ln_pdf`,
+/// which looks a child up in a prior, too. How many records were read is nothing that goko tells.
+pub fn hold_lookups(case: &PriorsCase, answers: &[Looked], tally: &mut Tally) -> Compared {
+    let Ok(priors) = check_priors(case.priors.lent()) else {
+        return Ok(());
+    };
+    let goko = Goko::open(0);
+    goko.lend_priors(&goko_priors(&case.priors), case.priors.floor);
+    for ((node, child), answer) in case.asked.iter().zip(answers) {
+        if tally.met.goko_looks_up(*node, case.priors.floor) {
+            let theirs = goko.ln_pdf(node_address(*node), node_address(*child));
+            let held = hold_lookup(priors.node(*node), *answer, theirs, tally);
+            held.map_err(|text| format!("{:?} under {:?} in {:?}\n{}", child, node, case.priors, text))?;
+        }
+    }
+    Ok(())
+}
+
+fn hold_lookup(
+    prior: Option<&recount::Prior>,
+    answer: Looked,
+    theirs: Result<Option<f64>, Panic>,
+    tally: &mut Tally,
+) -> Compared {
+    match (prior, answer, theirs) {
+        (Some(prior), Ok(ChildLookup { count, .. }), Ok(Some(theirs))) => {
+            tally.met.goko_has_the_same(true, count.is_some());
+            let ours = f64::from(count.unwrap_or(0)).ln() - (prior.total() as f64).ln();
+            same(tally, "ln_pdf", ours, theirs)
+        }
+        (None, Ok(ChildLookup { count: None, .. }), Ok(None)) => {
+            tally.met.goko_has_the_same(false, false);
+            Ok(())
+        }
+        (_, ours, theirs) => Err(format!("here {:?}, goko has {:?}", ours, theirs)),
+    }
+}
+
 /// Runs a training on the recount and on goko.
 pub fn compare_training(training: &Training, tally: &mut Tally) -> Compared {
     let mut ours = training.clone();
@@ -280,7 +319,7 @@ pub fn hold_training(
             return Ok(());
         }
     }
-    if !tally.floors.goko_answers(&training.nodes(), &training.priors) {
+    if !tally.met.goko_answers(&training.nodes(), &training.priors) {
         return Ok(());
     }
     oracle::lend_tables(&training.tables.g, &training.tables.d);

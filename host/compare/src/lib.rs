@@ -8,9 +8,11 @@ pub mod goko;
 #[cfg(no_goko)]
 #[path = "no_goko.rs"]
 pub mod goko;
+mod lookups;
+mod met;
 pub mod own;
 
-pub use floors::Floors;
+pub use met::Met;
 
 use cases::play::Answer;
 use recount::Refusal;
@@ -41,8 +43,8 @@ pub struct Tally {
     pub altered: u64,
     /// What the recount gave, by refusal number, 0 for an answer.
     pub numbers: BTreeMap<u32, u64>,
-    /// What was met of floors.
-    pub floors: Floors,
+    /// What was met of floors and child look-ups.
+    pub met: Met,
 }
 
 impl Tally {
@@ -77,12 +79,12 @@ impl Tally {
         for (number, count) in &other.numbers {
             *self.numbers.entry(*number).or_default() += count;
         }
-        self.floors.join(&other.floors);
+        self.met.join(&other.met);
     }
 
-    /// Fails where something of floors was not met at all.
-    pub fn met_floors(&self) -> Compared {
-        match &self.floors.missing()[..] {
+    /// Fails where something that is to be met was not met at all.
+    pub fn met_all(&self) -> Compared {
+        match &self.met.missing()[..] {
             [] => Ok(()),
             missing => Err(format!("nothing was compared of: {}", missing.join("; "))),
         }
@@ -98,9 +100,9 @@ impl Tally {
         self.print_rest();
     }
 
-    /// Prints what was met of floors and, if goko's sources were there, what was held against it.
+    /// Prints what was met and, if goko's sources were there, what was held against it.
     pub fn print_rest(&self) {
-        self.floors.print();
+        self.met.print();
         if oracle::PRESENT {
             println!("with goko, {} figures bit for bit:", self.figures);
             println!("  {} openings and adds, all counts after each", self.changes);

@@ -1,13 +1,14 @@
-//! Compares goko with the recount on many call lists, trainings and `stats` readings, every
-//! figure bit for bit wherever goko does not panic; and the recount with its own part for
-//! lent bytes, on the same lists and on altered memory. The seed decides all of it.
+//! Compares goko with the recount on many call lists, trainings, `stats` readings and look-ups of
+//! children, every figure bit for bit wherever goko does not panic; and the recount with its own part
+//! for lent bytes, on the same lists and on altered memory. The seed decides all of it.
 //!
 //!     compare [--lists N] [--seed S]
 
 use cases::calls::CallList;
 use cases::lists::{call_list, Shape};
+use cases::lookups::{self, PriorsCase};
 use cases::rng::Rng;
-use cases::{altered, baselines, exhaustive, paths, sample};
+use cases::{altered, baselines, exhaustive, paths, priors, sample};
 use compare::{goko, own, Compared, Tally};
 use std::process::ExitCode;
 
@@ -20,7 +21,7 @@ fn main() -> ExitCode {
         println!("goko's sources were not there: the comparison with goko is left out");
     }
     let mut tally = Tally::default();
-    match everything(lists, seed, &mut tally).and_then(|()| tally.met_floors()) {
+    match everything(lists, seed, &mut tally).and_then(|()| tally.met_all()) {
         Ok(()) => {
             tally.print();
             ExitCode::SUCCESS
@@ -49,6 +50,7 @@ fn arguments() -> Option<(u64, u64)> {
 fn everything(lists: u64, seed: u64, tally: &mut Tally) -> Compared {
     recorded_sample(tally)?;
     exhaustive::each_short_list(|list| call_list_on_all(list, tally))?;
+    exhaustive::every_chain().iter().try_for_each(|case| lookups_on_both(case, tally))?;
     for number in 0..lists {
         let mut rng = Rng::new(seed.wrapping_mul(1 << 32).wrapping_add(number));
         one_of_each(&mut rng, tally).map_err(|text| format!("seed {}, list {}: {}", seed, number, text))?;
@@ -72,10 +74,12 @@ fn recorded_sample(tally: &mut Tally) -> Compared {
     for asked in sample::stats_asked() {
         stats_on_both(&asked, tally)?;
     }
+    sample::priors_cases().iter().try_for_each(|case| lookups_on_both(case, tally))?;
     sample::altered_adds().iter().try_for_each(|add| own::check_altered(add, tally))
 }
 
-/// A call list, now and then a training, a baseline to ask, and adds on altered memory.
+/// A call list, now and then a training, a baseline to ask, adds on altered memory, and priors with
+/// look-ups in them.
 fn one_of_each(rng: &mut Rng, tally: &mut Tally) -> Compared {
     call_list_on_all(&call_list(rng, &Shape::small()), tally)?;
     if rng.chance(25) {
@@ -86,7 +90,9 @@ fn one_of_each(rng: &mut Rng, tally: &mut Tally) -> Compared {
         stats_on_both(&baselines::stats_asked(rng, 6), tally)?;
     }
     own::check_altered(&altered::altered_add(rng, 4), tally)?;
-    own::check_prior_cases(rng, tally)
+    let lent = priors::refusable(rng);
+    own::check_prior_case(&lent, tally)?;
+    lookups_on_both(&lookups::random(rng, lent), tally)
 }
 
 fn call_list_on_all(list: &CallList, tally: &mut Tally) -> Compared {
@@ -94,6 +100,11 @@ fn call_list_on_all(list: &CallList, tally: &mut Tally) -> Compared {
     own::check_list(list, tally)?;
     goko::compare_list(list, tally)?;
     Ok(())
+}
+
+fn lookups_on_both(case: &PriorsCase, tally: &mut Tally) -> Compared {
+    let answers = own::check_lookups(case, tally)?;
+    goko::hold_lookups(case, &answers, tally)
 }
 
 fn training_on_both(training: &baselines::Training, tally: &mut Tally) -> Compared {

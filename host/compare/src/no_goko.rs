@@ -3,6 +3,7 @@
 use crate::{Compared, Tally};
 use cases::baselines::{StatsAsked, Training};
 use cases::calls::{Call, CallList};
+use cases::lookups::{Looked, PriorsCase};
 use cases::play::{Answer, History, Player};
 use recount::limits::KNOT_VALUES;
 use recount::Refusal;
@@ -20,6 +21,11 @@ impl Beside {
 
 /// Nothing.
 pub fn compare_list(_: &CallList, _: &mut Tally) -> Compared {
+    Ok(())
+}
+
+/// Nothing.
+pub fn hold_lookups(_: &PriorsCase, _: &[Looked], _: &mut Tally) -> Compared {
     Ok(())
 }
 

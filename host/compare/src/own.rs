@@ -1,18 +1,18 @@
 //! What the recount must do by itself, goko or not: its two parts agree byte for byte on
 //! every list, a refused call changes nothing that is lent, an answer leaves the places past
-//! it alone, and an add on altered memory changes what it may and nothing else.
+//! it alone, an add on altered memory changes what it may and nothing else, and a child's look-up
+//! tells what a walk along the chain finds and reads.
 
 use crate::{Compared, Tally};
 use cases::altered::AlteredAdd;
 use cases::baselines::Training;
-use cases::calls::{Call, CallList, Places};
+use cases::calls::{Call, CallList, Places, PriorBytes};
+use cases::lookups::{Looked, PriorsCase};
 use cases::play::{Answer, Bytes, History, Player, Side};
-use cases::priors;
-use cases::rng::Rng;
 use recount::limits::{ENTRY_BYTES, MAX_CHAIN, MAX_COUNT, PLACE_BYTES};
 use recount::{
     check_priors, evidence_prob_vector, is_minus_zero, memory, same_figure, same_figures, stats, Address,
-    Memory, Output, Refusal, State, Tracker,
+    ChildLookup, Memory, Output, Refusal, State, Tracker,
 };
 use std::collections::BTreeSet;
 
@@ -49,7 +49,7 @@ fn check_call(
     let before = shown(&bytes.side);
     let answer = bytes.play(call);
     tally.answer(&answer);
-    tally.floors.reading(call, &answer, &bytes.side, &bytes.priors);
+    tally.met.reading(call, &answer, &bytes.side, &bytes.priors);
     let recounted = history.play(call);
     must(recounted.same(&answer), &format!("the history answers {:?}, the bytes {:?}", recounted, answer))?;
     must(!answer.told().into_iter().any(is_minus_zero), "a reading told minus zero")?;
@@ -156,7 +156,7 @@ pub fn check_training(training: &Training, tally: &mut Tally) -> Compared {
     let zero_book = |book: &[u8]| book.iter().all(|byte| *byte == 0);
     let answer = after.run();
     tally.result(&answer);
-    tally.floors.training(training, answer);
+    tally.met.training(training, answer);
     match answer {
         Ok(count) => {
             let count = count as usize;
@@ -199,8 +199,7 @@ fn check_trained(trained: &Training, count: usize) -> Compared {
 }
 
 /// Damaged priors get a number from 3 to 7 or 22, or are in order after all.
-pub fn check_prior_cases(rng: &mut Rng, tally: &mut Tally) -> Compared {
-    let lent = priors::refusable(rng);
+pub fn check_prior_case(lent: &PriorBytes, tally: &mut Tally) -> Compared {
     let answer = check_priors(lent.lent());
     tally.result(&answer);
     match answer {
@@ -219,4 +218,36 @@ pub fn check_prior_cases(rng: &mut Rng, tally: &mut Tally) -> Compared {
             must(apart && ascending && checked.nodes.iter().all(in_order), "priors out of order were taken")
         }
     }
+}
+
+/// Look-ups of children: the recount tells what a walk along the chain finds that stops at the first
+/// address which is not below the one wanted, and as many records as that walk reads. Gives its answers.
+pub fn check_lookups(case: &PriorsCase, tally: &mut Tally) -> Result<Vec<Looked>, String> {
+    let checked = check_priors(case.priors.lent());
+    let answers = case.answers(&checked);
+    for ((node, child), answer) in case.asked.iter().zip(&answers) {
+        tally.result(answer);
+        tally.met.looked_up(&checked, *node, *child);
+        if let Ok(priors) = &checked {
+            let walked = walked(priors.node(*node).map_or(&[], |prior| &prior.children), *child);
+            if *answer != Ok(walked) {
+                return Err(format!(
+                    "{:?}, {:?}: {:?}, a walk {:?}\n{:?}",
+                    node, child, answer, walked, priors
+                ));
+            }
+        }
+    }
+    Ok(answers)
+}
+
+fn walked(chain: &[(Address, u32)], child: Address) -> ChildLookup {
+    let mut read = 0;
+    for (address, count) in chain {
+        read += 1;
+        if *address >= child {
+            return ChildLookup { count: (*address == child).then_some(*count), read };
+        }
+    }
+    ChildLookup { count: None, read }
 }

@@ -115,6 +115,14 @@ impl Goko {
         })
     }
 
+    /// `Dirichlet::ln_pdf`, which looks a child up in the node's prior: ln of its count, minus infinity
+    /// where the prior lacks it, less ln of the prior's total. None where the node has no prior.
+    pub fn ln_pdf(&self, node: NodeAddress, child: NodeAddress) -> Result<Option<f64>, Panic> {
+        let reader = self.tracker.reader();
+        caught(|| reader.get_node_plugin_and::<Dirichlet, _, _>(node, |prior| prior.ln_pdf(Some(&child))))
+            .map(Option::flatten)
+    }
+
     /// `all_node_kl`, with the number of lines that goko prints for nodes without a prior.
     pub fn all_node_kl(&self) -> Result<(Vec<(f64, NodeAddress)>, u64), Panic> {
         take_lines();

@@ -41,6 +41,15 @@ fn a_missing_child_goes_unseen_where_the_table_ends_before_it() {
 }
 
 #[test]
+fn a_missing_child_counts_as_zero_in_a_prior() {
+    let bare = after(prior(NODE, 1, &[]), 9, &[NODE]);
+    assert_eq!(bare.ln_pdf(NODE, CHILD), Ok(Some(f64::NEG_INFINITY)));
+    assert_eq!(bare.ln_pdf(CHILD, CHILD), Ok(None), "a node without a prior");
+    let goko = after(prior(NODE, 1, &[(CHILD, 3)]), 9, &[NODE]);
+    assert_eq!(goko.ln_pdf(NODE, CHILD), Ok(Some(3.0_f64.ln() - 4.0_f64.ln())));
+}
+
+#[test]
 fn zeros_below_the_first_knot_and_without_knots() {
     let bits = |told: Result<[f64; 10], Panic>| told.map(|figures| figures.map(f64::to_bits));
     assert_eq!(bits(stats(1, &[2], &[-0.0; 10], 1)), Ok([0; 10]));
@@ -171,6 +180,8 @@ fn below_the_floor_the_point_alone_finds_the_prior() {
     // T = 2, U = 3. The transition alone gives 4 - (1 + 1) - 9 + (1 + 4) + (8 - 4), the ending
     // 4 - 1 - 9 + 4 + (8 - 4).
     assert_eq!(goko.all_node_kl(), Ok((vec![(2.0, low), (2.0, high)], 0)), "two nodes with one prior");
+    assert_eq!(goko.ln_pdf(low, high), Ok(Some(1.0_f64.ln() - 2.0_f64.ln())));
+    assert_eq!(goko.ln_pdf(low, low), Ok(Some(f64::NEG_INFINITY)), "a child by its exact address");
     goko.lend_priors(&priors, -2);
     assert_eq!(goko.all_node_kl(), Ok((vec![], 2)), "the floor's own scale is not below it");
 }

@@ -20,7 +20,7 @@ pub use address::{path_bytes, Address};
 pub use evidence::{Evidence, NodeEvidence};
 pub use figures::{is_minus_zero, same_figure, same_figures};
 pub use memory::{add_path, open, Memory};
-pub use priors::{check_priors, record_bytes, LentPriors, Prior, Priors};
+pub use priors::{check_priors, child, record_bytes, ChildLookup, LentPriors, Prior, Priors};
 pub use readings::{
     all_node_kl, evidence_prob_vector, kl_div_stats, posterior_kl_divergence, prob_vector, KLDivergenceStats,
     NodeKlList, Output, ProbVector, Tracker,

@@ -40,6 +40,23 @@ impl Prior {
     pub fn child(&self, child: Address) -> Option<u32> {
         self.children.iter().find(|(address, _)| *address == child).map(|(_, count)| *count)
     }
+
+    /// How many records of the chain a child's look-up reads: all those below the address wanted, and
+    /// one more if the chain has any other.
+    fn read(&self, child: Address) -> u32 {
+        let below = self.children.iter().filter(|(address, _)| *address < child).count();
+        let goes_on = self.children.len() > below;
+        below as u32 + u32::from(goes_on)
+    }
+}
+
+/// What a child's look-up tells.
+#[derive(Debug, Clone, Copy, PartialEq, Eq, Default)]
+pub struct ChildLookup {
+    /// The child's count; none if the node has no prior, or its prior no such child.
+    pub count: Option<u32>,
+    /// Child records read, told where there is no count as well; 0 if the node has no prior.
+    pub read: u32,
 }
 
 /// Priors that passed 3 to 7 and 22.
@@ -61,6 +78,12 @@ impl Priors {
             false => record == address,
         };
         self.nodes.iter().find(|prior| fits(prior.address))
+    }
+
+    /// A child, by exact address, in the prior of a node.
+    pub fn child(&self, node: Address, child: Address) -> ChildLookup {
+        let look_up = |prior: &Prior| ChildLookup { count: prior.child(child), read: prior.read(child) };
+        self.node(node).map(look_up).unwrap_or_default()
     }
 
     /// Whether the node has a prior whose record has another address.
@@ -108,6 +131,11 @@ pub fn check_priors(lent: LentPriors) -> Result<Priors, Refusal> {
     refuse(7, !(counts_hold && priors.iter().all(|prior| prior.total() > 0)))?;
     refuse(22, points_meet(&nodes, lent.floor))?;
     Ok(Priors { nodes: priors, floor: lent.floor })
+}
+
+/// A child's look-up in lent priors; refusals 3 to 7 and 22.
+pub fn child(lent: LentPriors, node: Address, child: Address) -> Result<ChildLookup, Refusal> {
+    check_priors(lent).map(|priors| priors.child(node, child))
 }
 
 /// Whether two node records below the floor have one point.

@@ -6,8 +6,9 @@ use crate::guard::{Lent, Plain};
 use archive::raw::NONE;
 use cases::baselines::Training;
 use cases::calls::{Places, PriorBytes, Tables};
+use cases::lookups::Looked;
 use recount::limits::KNOT_VALUES;
-use recount::{Address, KLDivergenceStats, NodeKlList, ProbVector, Refusal, State};
+use recount::{Address, ChildLookup, KLDivergenceStats, NodeKlList, ProbVector, Refusal, State};
 
 /// What results hold before a call.
 const UNWRITTEN: u32 = 0x5eed_5eed;
@@ -33,6 +34,8 @@ pub struct Archive {
     places: Lent<u32>,
     ending: Lent<f64>,
     numbers: Lent<u64>,
+    count: Lent<u32>,
+    read: Lent<u32>,
     node_scale: Lent<i32>,
     node_point: Lent<u32>,
     sequences: Lent<u8>,
@@ -146,7 +149,7 @@ impl Archive {
             &self.sequences,
         ];
         let figures = [&self.g, &self.d, &self.figures, &self.ending, &self.values];
-        let words = [&self.state, &self.places, &self.node_point, &self.knots];
+        let words = [&self.state, &self.places, &self.count, &self.read, &self.node_point, &self.knots];
         let stand = bytes.iter().all(|lent| lent.guarded())
             && figures.iter().all(|lent| lent.guarded())
             && words.iter().all(|lent| lent.guarded())
@@ -182,6 +185,29 @@ impl Archive {
         let answer = archive::check_priors((self.nodes.now(), self.children.now(), self.floor));
         self.bands()?;
         Ok(carried_out(answer))
+    }
+
+    /// `teakpool_child` in the priors lent last. Where there is none, the number read alone is written.
+    pub fn child(&mut self, node: Address, child: Address) -> Told<Looked> {
+        self.count.lay(&[UNWRITTEN]);
+        self.read.lay(&[UNWRITTEN]);
+        let answer = archive::child(
+            (self.nodes.now(), self.children.now(), self.floor),
+            (node.scale, node.point),
+            (child.scale, child.point),
+            (self.count.number_mut(), self.read.number_mut()),
+        );
+        self.bands()?;
+        let (count, read) = (self.count.now()[0], self.read.now()[0]);
+        if answer == 0 {
+            return Ok(Ok(ChildLookup { count: Some(count), read }));
+        }
+        must(count == UNWRITTEN, "the count of a child that is not there was told")?;
+        if answer == NONE {
+            return Ok(Ok(ChildLookup { count: None, read }));
+        }
+        must(read == UNWRITTEN, "a refused look-up told how many records it read")?;
+        Ok(Err(refused(answer, None)))
     }
 
     /// `teakpool_open` on memory that holds `fill` everywhere. Where it is refused, the memory

@@ -5,6 +5,7 @@ use crate::calls::{Archive, Held, Told};
 use cases::altered::AlteredAdd;
 use cases::baselines::{StatsAsked, Training};
 use cases::calls::{Call, CallList, Places, PriorBytes, Tables};
+use cases::lookups::PriorsCase;
 use cases::play::{same_result, Answer, History, Player, Side};
 use compare::goko::{self, Beside};
 use compare::{Compared, Tally};
@@ -86,7 +87,7 @@ fn one_call(
     let answer = play(archive, call, fill)?;
     let recounted = history.play(call);
     tally.answer(&recounted);
-    tally.floors.reading(call, &recounted, &history.side, &history.priors);
+    tally.met.reading(call, &recounted, &history.side, &history.priors);
     must(recounted.same(&answer), || differ("answer", &recounted, &answer))?;
     if let Answer::Changed(Ok(())) = answer {
         let side = &history.side;
@@ -115,7 +116,7 @@ pub fn altered(
         let answer = play(archive, &call, 0)?;
         let recounted = read_altered(add, &call, tables, priors);
         tally.answer(&recounted);
-        tally.floors.reading(&call, &recounted, &add.memory(), priors);
+        tally.met.reading(&call, &recounted, &add.memory(), priors);
         must(recounted.same(&answer), || {
             format!("{:?} on {:?}\n{}", call, add, differ("answer", &recounted, &answer))
         })?;
@@ -184,7 +185,7 @@ pub fn training(archive: &mut Archive, training: &Training, tally: &mut Tally) -
     let mut ours = training.clone();
     let recounted = ours.run();
     tally.result(&recounted);
-    tally.floors.training(training, recounted);
+    tally.met.training(training, recounted);
     must(recounted == answer, || format!("{:#?}\n{}", training, differ("answer", recounted, answer)))?;
     let same = ours.book == left.book && ours.knots == left.knots && same_figures(&ours.values, &left.values);
     must(same, || format!("{:#?}\n{}", training, differ("book, knots and values", &ours, &left)))?;
@@ -223,4 +224,22 @@ pub fn priors(archive: &mut Archive, priors: &PriorBytes, tally: &mut Tally) -> 
     tally.result(&recounted);
     must(recounted == answer, || format!("{:?}\n{}", priors, differ("priors", recounted, answer)))?;
     must(archive.lends_priors(priors), || "the archive changed lent priors".to_string())
+}
+
+/// Look-ups of children in priors.
+pub fn lookups(archive: &mut Archive, case: &PriorsCase, tally: &mut Tally) -> Compared {
+    archive.lend_priors(&case.priors);
+    let checked = check_priors(case.priors.lent());
+    let mut answers = Vec::new();
+    for ((node, child), recounted) in case.asked.iter().zip(case.answers(&checked)) {
+        let answer = archive.child(*node, *child)?;
+        tally.result(&recounted);
+        tally.met.looked_up(&checked, *node, *child);
+        must(recounted == answer, || {
+            format!("{:?} in {:?}\n{}", (node, child), case.priors, differ("look-up", recounted, answer))
+        })?;
+        answers.push(answer);
+    }
+    must(archive.lends_priors(&case.priors), || "the archive changed lent priors".to_string())?;
+    goko::hold_lookups(case, &answers, tally)
 }

@@ -1,7 +1,7 @@
-//! Every short list, the recorded sample, and cases at the limits: tables of 1, 2, 1,048,576 and
-//! 1,048,577 entries and a U at the last index, priors of the most records and one more, as many in
-//! scales of their own below a floor, chains of 63 to 65, books and queues at their largest sizes,
-//! long windows, 1,024 knots and one more.
+//! Every short list, every short chain, the recorded sample, and cases at the limits: tables of 1, 2,
+//! 1,048,576 and 1,048,577 entries and a U at the last index, priors of the most records and one more,
+//! as many in scales of their own below a floor, chains of 62 to 65 with look-ups in them, books and
+//! queues at their largest sizes, long windows, 1,024 knots and one more.
 
 use crate::calls::Archive;
 use crate::check;
@@ -9,9 +9,9 @@ use cases::baselines::Training;
 use cases::calls::{Call, CallList, Places, PriorBytes, Tables};
 use cases::lists::{call_list, Shape};
 use cases::rng::Rng;
-use cases::{exhaustive, priors, sample, tables};
+use cases::{exhaustive, lookups, priors, sample, tables};
 use compare::{Compared, Tally};
-use recount::limits::{ENTRY_BYTES, KNOT_VALUES, MAX_CHILDREN, MAX_KNOTS, MAX_NODES, PLACE_BYTES};
+use recount::limits::{ENTRY_BYTES, KNOT_VALUES, MAX_CHAIN, MAX_CHILDREN, MAX_KNOTS, MAX_NODES, PLACE_BYTES};
 use recount::{path_bytes, record_bytes, Address};
 
 /// All of them.
@@ -25,11 +25,16 @@ pub fn all(archive: &mut Archive, tally: &mut Tally) -> Compared {
     sample::trainings().iter().try_for_each(|training| check::training(archive, training, tally))?;
     sample::stats_asked().iter().try_for_each(|asked| check::stats(archive, asked, tally))?;
     sample::table_cases().iter().try_for_each(|tables| check::tables(archive, tables, tally))?;
-    sample::priors_cases().iter().try_for_each(|case| check::priors(archive, &case.priors, tally))?;
+    for case in sample::priors_cases() {
+        check::priors(archive, &case.priors, tally)?;
+        check::lookups(archive, &case, tally)?;
+    }
+    exhaustive::every_chain().iter().try_for_each(|case| check::lookups(archive, case, tally))?;
     exhaustive::each_short_list(|list| check::list(archive, list, tally))?;
     exhaustive::under_floors().iter().try_for_each(|lent| check::priors(archive, lent, tally))?;
     table_lengths(archive, tally)?;
     prior_sizes(archive, tally)?;
+    widest_chains(archive, tally)?;
     scales_below_a_floor(archive, tally)?;
     knots(archive, tally)?;
     [1_023, 1_024].iter().try_for_each(|window| {
@@ -90,6 +95,29 @@ fn prior_sizes(archive: &mut Archive, tally: &mut Tally) -> Compared {
         check::priors(archive, &lent, tally)?;
     }
     [63, 64, 65].iter().try_for_each(|length| check::priors(archive, &priors::long_chain(*length), tally))
+}
+
+/// The most records of both kinds in chains of 64, each chain's records as far apart as they can be. A
+/// chain belongs to several nodes. Look-ups around every child of the first, a middle and the last node,
+/// and in chains of 62 to 65 by themselves.
+fn widest_chains(archive: &mut Archive, tally: &mut Tally) -> Compared {
+    let chains = MAX_CHILDREN / MAX_CHAIN;
+    let node = |index: usize| record_bytes(Address::new(3, index as u32), 1, (index % chains + 1) as u32);
+    let child = |index: usize| {
+        let next = if index + chains < MAX_CHILDREN { index + chains + 1 } else { 0 };
+        record_bytes(Address::new(index as i32 / 4_096 - 2, 2 * index as u32), index as u32 + 1, next as u32)
+    };
+    let priors = PriorBytes {
+        nodes: (0..MAX_NODES).flat_map(node).collect(),
+        children: (0..MAX_CHILDREN).flat_map(child).collect(),
+        ..PriorBytes::default()
+    };
+    let nodes = [0, 2_047, 4_095].map(|point| Address::new(3, point));
+    check::lookups(archive, &lookups::every(priors, &nodes), tally)?;
+    [62, 63, 64, 65].into_iter().try_for_each(|length| {
+        let case = lookups::every(priors::long_chain(length), &[Address::new(1, 0)]);
+        check::lookups(archive, &case, tally)
+    })
 }
 
 /// The most node records, each in a scale of its own below the floor. The last may have the first

@@ -1,7 +1,7 @@
 //! Many cases through the archive, each held against the recount and, where goko's sources are
 //! there, against goko: random call lists with readings, adds and readings on altered memory,
-//! trainings, baselines, tables and priors, and cases at the limits. Memory around everything
-//! lent is guarded. The seed decides all of it.
+//! trainings, baselines, tables, priors and look-ups in them, and cases at the limits. Memory around
+//! everything lent is guarded. The seed decides all of it.
 //!
 //!     through [--lists N] [--long] [--seed S] [--threads T]
 
@@ -15,7 +15,7 @@ use cases::altered::altered_add;
 use cases::calls::{Places, PriorBytes, Tables};
 use cases::lists::{call_list, Shape};
 use cases::rng::Rng;
-use cases::{baselines, paths, priors, tables};
+use cases::{baselines, lookups, paths, priors, tables};
 use compare::{Compared, Tally};
 use recount::limits::ENTRY_BYTES;
 use recount::Address;
@@ -105,7 +105,7 @@ fn everything(given: &Arguments) -> Result<(Tally, u64), String> {
         tally.join(&counted);
         calls += made;
     }
-    tally.met_floors()?;
+    tally.met_all()?;
     Ok((tally, calls))
 }
 
@@ -131,7 +131,8 @@ fn part(
     Ok((tally, archive.calls))
 }
 
-/// A call list and adds on altered memory; now and then a training, a baseline, tables, priors.
+/// A call list, adds on altered memory, tables, and priors with look-ups; now and then a training or a
+/// baseline.
 fn one_of_each(archive: &mut Archive, rng: &mut Rng, tally: &mut Tally) -> Compared {
     check::list(archive, &call_list(rng, &Shape::small()), tally)?;
     altered(archive, rng, tally)?;
@@ -144,7 +145,9 @@ fn one_of_each(archive: &mut Archive, rng: &mut Rng, tally: &mut Tally) -> Compa
     }
     let last = rng.between(1, 40);
     check::tables(archive, &tables::damaged(rng, last), tally)?;
-    check::priors(archive, &priors::refusable(rng), tally)
+    let lent = priors::refusable(rng);
+    check::priors(archive, &lent, tally)?;
+    check::lookups(archive, &lookups::random(rng, lent), tally)
 }
 
 /// Altered memory with priors over the addresses that its book begins with.

@@ -4,8 +4,9 @@
 use crate::limits::{within, TABLE_ENTRIES};
 use crate::words::{Case, Reader};
 use cases::calls::Tables;
-use cases::sample::{self, PriorsCase};
-use recount::{check_priors, check_tables, Address, Priors};
+use cases::lookups::PriorsCase;
+use cases::sample;
+use recount::{check_priors, check_tables, Address, ChildLookup, Priors};
 
 const TABLES: u32 = 1;
 const PRIORS: u32 = 2;
@@ -47,15 +48,16 @@ fn priors_case(recorded: &PriorsCase) -> Case {
 }
 
 /// Whether the node is there, its singleton count and number of children; whether the child
-/// is there under it, and its count.
+/// is there under it, its count, and how many child records its look-up reads.
 fn looked_up(case: &mut Case, priors: &Priors, node: Address, child: Address) {
     let prior = priors.node(node);
     case.word(u32::from(prior.is_some()));
     case.word(prior.map_or(0, |prior| prior.singleton));
     case.word(prior.map_or(0, |prior| prior.children.len() as u32));
-    let count = prior.and_then(|prior| prior.child(child));
+    let ChildLookup { count, read } = priors.child(node, child);
     case.word(u32::from(count.is_some()));
     case.word(count.unwrap_or(0));
+    case.word(read);
 }
 
 pub fn replay(reader: &mut Reader) -> Result<(), String> {
