@@ -1,6 +1,6 @@
 //! The calls, each with the arguments of its function in `raw`, a line for each thing lent.
 
-use crate::{raw, Named, Node, Output, Priors, Sequences, Tables, Tracker, Trained, Vector};
+use crate::{raw, ChildFound, Named, Node, Output, Priors, Sequences, Tables, Tracker, Trained, Vector};
 
 /// The archive's version: major times 1,000,000, minor times 1,000 and patch.
 pub fn version() -> u32 {
@@ -18,6 +18,23 @@ pub fn check_tables((g, d): Tables) -> u32 {
 pub fn check_priors((nodes, children, floor): Priors) -> u32 {
     // SAFETY: as above.
     unsafe { raw::teakpool_check_priors(nodes.as_ptr(), nodes.len(), children.as_ptr(), children.len(), floor) }
+}
+
+/// A child in a node's prior.
+pub fn child(
+    (nodes, children, floor): Priors,
+    (scale, point): Node,
+    (child_scale, child_point): Node,
+    (count, read): ChildFound,
+) -> u32 {
+    // SAFETY: as above.
+    unsafe {
+        raw::teakpool_child(
+            nodes.as_ptr(), nodes.len(), children.as_ptr(), children.len(), floor,
+            scale, point, child_scale, child_point,
+            count, read,
+        )
+    }
 }
 
 /// Opens a tracker.

@@ -23,8 +23,11 @@ pub type Tracker<'a> = (&'a [u32; 3], &'a [u8], &'a [u8]);
 pub type Priors<'a> = (&'a [u8], &'a [u8], i32);
 /// The tables of ln gamma and digamma.
 pub type Tables<'a> = (&'a [f64], &'a [f64]);
-/// The scale and the point of a node asked for.
+/// The scale and the point of a node or a child asked for.
 pub type Node = (i32, u32);
+/// A child's count, and how many child records were read; where there is no such child, the second
+/// alone is written.
+pub type ChildFound<'a> = (&'a mut u32, &'a mut u32);
 /// Where 14 and 15 name a node: its scale and its point.
 pub type Named<'a> = (&'a mut i32, &'a mut u32);
 /// Output places: addresses, eight bytes each, and figures.

@@ -34,6 +34,18 @@ extern "C" {
         nodes: *const u8, nodes_len: usize, children: *const u8, children_len: usize, floor: i32,
     ) -> u32;
 
+    /// A child, by exact address, in a node's prior: its count, and how many child records of the
+    /// chain were read. Where there is no such child, `read` is written all the same.
+    ///
+    /// # Safety
+    /// `nodes` and `children` are slices as the module says, `count` and `read` point at one number
+    /// each and overlap nothing.
+    pub fn teakpool_child(
+        nodes: *const u8, nodes_len: usize, children: *const u8, children_len: usize, floor: i32,
+        scale: i32, point: u32, child_scale: i32, child_point: u32,
+        count: *mut u32, read: *mut u32,
+    ) -> u32;
+
     /// Opens a tracker: book and queue become zero, `state` the window and two zeros.
     ///
     /// # Safety
