@@ -12,8 +12,9 @@
  *
  * What every function but teakpool_version returns
  *   TEAKPOOL_DONE (0)    the call is carried out and its answer is written;
- *   TEAKPOOL_NONE (100)  there is no answer, goko's None, and nothing is written: the node asked for has no prior, is not listed, or
- *                        is listed with a total of 0. Each function that can return it says when;
+ *   TEAKPOOL_NONE (100)  there is no answer, goko's None: the node asked for has no prior, is not listed, is listed with a total of 0,
+ *                        or has a prior without the child asked for. Each function that can return it says when. Nothing is
+ *                        written, but that teakpool_child tells how many records it read;
  *   1 to 18, 22          the call is refused, by the numbers of `enum teakpool_refusal`. Nothing is written, but 14 and 15 write
  *                        node_scale and node_point where the call has them, and a training that 10, 12, 14 or 15 stops leaves its
  *                        book, knots and values all zero to their ends.
@@ -85,7 +86,8 @@
  *       is: its divergence would be infinite. Once the path is in the book, every later teakpool_all_node_kl and
  *       teakpool_kl_div_stats is refused, even when the path has left the window, because a zero count keeps its entry; only an
  *       opening anew helps. So try each path by itself before it is added (teakpool_try_path below does it), report 14 with its node
- *       as a finding, and do not add the path. Where a transition is rare but known, give it a count of 1 in the prior.
+ *       as a finding, and do not add the path; teakpool_child, asked for each step that comes right after the node, tells which one
+ *       its prior does not have. Where a transition is rare but known, give it a count of 1 in the prior.
  *   15  The tables end before a node's prior total plus its evidence total. Each occurrence of a node in the window is 1 of its
  *       evidence total. So with T the greatest prior total, W the window and L the steps of the longest path, a table needs
  *       T + W x L + 1 entries, index 0 included; T + W + 1 if no path meets a node twice. With a window of 0, and in a training, the
@@ -99,9 +101,9 @@
 
 /* The version of this header; teakpool_version() tells that of the archive. CHANGELOG.md says what counts as a break. */
 #define TEAKPOOL_VERSION_MAJOR 0u
-#define TEAKPOOL_VERSION_MINOR 2u
+#define TEAKPOOL_VERSION_MINOR 3u
 #define TEAKPOOL_VERSION_PATCH 0u
-#define TEAKPOOL_VERSION_STRING "0.2.0"
+#define TEAKPOOL_VERSION_STRING "0.3.0"
 #define TEAKPOOL_VERSION (1000000u * TEAKPOOL_VERSION_MAJOR + 1000u * TEAKPOOL_VERSION_MINOR + TEAKPOOL_VERSION_PATCH)
 
 /* A call's answer is to be looked at, and none of its pointers is NULL. */
@@ -185,6 +187,23 @@ uint32_t teakpool_check_tables(const double *g, size_t g_length, const double *d
 TEAKPOOL_CALL
 uint32_t teakpool_check_priors(const uint8_t *nodes, size_t nodes_length, const uint8_t *children, size_t children_length,
                                int32_t floor);
+
+/* The count of a child in a node's prior. The node is looked up as every node is, below the floor by its point; the child in its
+ * chain, always by its exact address. Since chains ascend, the look-up ends at the first record that is not below the child's
+ * address, and read tells how many child records it read: those below that address, and one more if the chain goes on.
+ *   empty chain                              0
+ *   before the first record                  1
+ *   equal to the record at place p, from 0   p + 1
+ *   between the places p - 1 and p           p + 1
+ *   past the last of n records               n
+ * So read is at most 64. The node's record, and what the tests of the priors read, do not count.
+ * None if the node has no prior, or its prior does not have the child. Then count is as it was, and read is written all the same; it
+ * is 0 if the node has no prior.
+ * Limits: those of teakpool_check_priors; node and child may be any two addresses.
+ * Refused: 3 to 7 and 22 as in teakpool_check_priors. Then count and read are as they were. */
+TEAKPOOL_CALL
+uint32_t teakpool_child(const uint8_t *nodes, size_t nodes_length, const uint8_t *children, size_t children_length, int32_t floor,
+                        int32_t scale, uint32_t point, int32_t child_scale, uint32_t child_point, uint32_t *count, uint32_t *read);
 
 /* Opens a tracker. Book and queue are zeroed to their ends, whatever they held; state becomes window, 0, 0. A window of 0 keeps
  * every path counted. After p accepted paths of s steps in all, at most 2s - p entries of the book are used.
@@ -497,7 +516,14 @@ static inline struct teakpool_baseline teakpool_make_baseline(uint32_t *knots, d
     return baseline;
 }
 
-/* Answers. A call that is not carried out leaves them as they were, but 14 and 15 write the node. */
+/* Answers. A call that is not carried out leaves them as they were, but 14 and 15 write the node, and teakpool_priors_child writes read
+ * where it gives none. */
+
+/* Of teakpool_child: the child's count in the prior, and how many child records were read. */
+struct teakpool_child_found {
+    uint32_t count;
+    uint32_t read;
+};
 
 /* Of a probability vector: places filled, and the ending's probability. */
 struct teakpool_vector {
@@ -538,6 +564,15 @@ static inline uint32_t teakpool_priors_check(struct teakpool_priors priors)
 {
     return teakpool_check_priors(priors.nodes.at, priors.nodes.length, priors.children.at, priors.children.length,
                                  teakpool_floor_scale(priors.floor));
+}
+
+TEAKPOOL_CALL
+static inline uint32_t teakpool_priors_child(struct teakpool_priors priors, struct teakpool_address node,
+                                             struct teakpool_address child, struct teakpool_child_found *found)
+{
+    return teakpool_child(priors.nodes.at, priors.nodes.length, priors.children.at, priors.children.length,
+                          teakpool_floor_scale(priors.floor), node.scale, node.point, child.scale, child.point, &found->count,
+                          &found->read);
 }
 
 TEAKPOOL_CALL

@@ -76,6 +76,20 @@ uint32_t teakpool_check_priors(const uint8_t *nodes_at, size_t nodes_length, con
     return answer;
 }
 
+uint32_t teakpool_child(const uint8_t *nodes_at, size_t nodes_length, const uint8_t *children_at, size_t children_length,
+                        int32_t floor, int32_t scale, uint32_t point, int32_t child_scale, uint32_t child_point, uint32_t *count,
+                        uint32_t *read)
+{
+    priors_seen(nodes_at, nodes_length, children_at, children_length, floor);
+    number((uint64_t)(int64_t)scale);
+    number(point);
+    number((uint64_t)(int64_t)child_scale);
+    number(child_point);
+    number(place(count));
+    number(place(read));
+    return answer;
+}
+
 uint32_t teakpool_open(uint32_t window, uint8_t *book_at, size_t book_length, uint8_t *queue_at, size_t queue_length,
                        uint32_t state[3])
 {
@@ -262,14 +276,17 @@ static void lend(void)
     expect(tracker.state[0] > TEAKPOOL_MAX_WINDOW && tracker.state[1] == 0 && tracker.state[2] == 0, "a tracker is not open as made");
 }
 
-static void on_a_tracker(void)
+static void on_priors_and_trackers(void)
 {
     struct teakpool_vector vector;
+    struct teakpool_child_found found;
     double value;
     expect(teakpool_tables_check(tables) == answer, "teakpool_tables_check");
     HANDED("what teakpool_check_tables is handed", TABLES);
     expect(teakpool_priors_check(priors) == answer, "teakpool_priors_check");
     HANDED("what teakpool_check_priors is handed", PRIORS);
+    expect(teakpool_priors_child(priors, node, teakpool_make_address(-28, 29), &found) == answer, "teakpool_priors_child");
+    HANDED("what teakpool_child is handed", PRIORS, NODE, (uint64_t)(int64_t)-28, 29, place(&found.count), place(&found.read));
     expect(teakpool_tracker_prob_vector(&tracker, priors, node, output, &vector) == answer, "teakpool_tracker_prob_vector");
     HANDED("what teakpool_prob_vector is handed", TRACKER, PRIORS, NODE, OUTPUT, place(&vector.places), place(&vector.ending));
     expect(teakpool_tracker_evidence_prob_vector(&tracker, node, output, &vector) == answer, "teakpool_tracker_evidence_prob_vector");
@@ -375,7 +392,7 @@ int main(void)
     lend();
     openings_and_adds();
     for (answer = TEAKPOOL_DONE; answer <= TEAKPOOL_SHARED_POINT; answer++) {
-        on_a_tracker();
+        on_priors_and_trackers();
         lists();
         statistics();
         trials();

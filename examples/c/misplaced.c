@@ -3,18 +3,23 @@
 #include "teakpool.h"
 
 uint32_t misplaced(struct teakpool_tracker *tracker, struct teakpool_priors priors, struct teakpool_tables tables,
-                   struct teakpool_output output, struct teakpool_list *list, struct teakpool_sequences *sequences);
+                   struct teakpool_output output, struct teakpool_list *list, struct teakpool_sequences *sequences,
+                   struct teakpool_address node, struct teakpool_child_found *found);
 
 uint32_t misplaced(struct teakpool_tracker *tracker, struct teakpool_priors priors, struct teakpool_tables tables,
-                   struct teakpool_output output, struct teakpool_list *list, struct teakpool_sequences *sequences)
+                   struct teakpool_output output, struct teakpool_list *list, struct teakpool_sequences *sequences,
+                   struct teakpool_address node, struct teakpool_child_found *found)
 {
-    (void)sequences;
+    (void)sequences, (void)node, (void)found;
 #if CASE == 0
     tables = teakpool_make_tables(tables.g, tables.d);
     priors = teakpool_priors_with_floor(teakpool_make_priors(priors.nodes, priors.children), teakpool_make_floor(-3));
     *tracker = teakpool_make_tracker(tracker->book, tracker->queue);
     output = teakpool_make_output(output.addresses, output.figures, output.places);
     *sequences = teakpool_make_sequences(sequences->at, sequences->length, sequences->s, sequences->n, sequences->rate);
+    if (teakpool_priors_child(priors, node, node, found) != TEAKPOOL_DONE) {
+        return TEAKPOOL_NONE;
+    }
 #elif CASE == 1  /* the two tables */
     tables = teakpool_make_tables(tables.d, tables.g);
 #elif CASE == 2  /* node records and child records */
@@ -47,6 +52,12 @@ uint32_t misplaced(struct teakpool_tracker *tracker, struct teakpool_priors prio
     priors = teakpool_priors_with_floor(priors, -3);
 #elif CASE == 16 /* priors with a floor that nobody takes */
     teakpool_priors_with_floor(priors, teakpool_make_floor(-3));
+#elif CASE == 17 /* priors and a node */
+    return teakpool_priors_child(node, priors, node, found);
+#elif CASE == 18 /* a list where a child's count goes */
+    return teakpool_priors_child(priors, node, node, list);
+#elif CASE == 19 /* a child's count, whether there is one or not */
+    teakpool_priors_child(priors, node, node, found);
 #else
 #error "there is no such case"
 #endif

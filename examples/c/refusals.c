@@ -127,9 +127,24 @@ static void table_entries(void)
 
 /* ---- 3 to 7 and 22 */
 
+/* The look-up of a child refuses what the check refuses, and leaves both numbers then. */
+static uint32_t check_priors_of(const uint8_t *its_nodes, size_t nodes_length, const uint8_t *its_children, size_t children_length,
+                                int32_t floor)
+{
+    uint32_t count = 77, read = 78;
+    uint32_t code = teakpool_check_priors(its_nodes, nodes_length, its_children, children_length, floor);
+    uint32_t found = teakpool_child(its_nodes, nodes_length, its_children, children_length, floor, 1, 7, 0, 9, &count, &read);
+    if (code == TEAKPOOL_DONE) {
+        expect((found == TEAKPOOL_DONE || (found == TEAKPOOL_NONE && count == 77)) && read != 78, "a child of priors as they should be");
+    } else {
+        expect(found == code && count == 77 && read == 78, "a child of priors that are refused");
+    }
+    return code;
+}
+
 static uint32_t check_priors(void)
 {
-    return teakpool_check_priors(nodes, sizeof nodes, children, sizeof children, prior_floor);
+    return check_priors_of(nodes, sizeof nodes, children, sizeof children, prior_floor);
 }
 
 static void prior_records(void)
@@ -186,9 +201,9 @@ static void shared_points(void)
     for (uint32_t i = 0; i < 3; i++) {
         put_record(apart + 16 * i, (int32_t)i - 3, i % 2, 1, 0);
     }
-    expect_number(teakpool_check_priors(apart, sizeof apart, children, sizeof children, -1), TEAKPOOL_DONE,
+    expect_number(check_priors_of(apart, sizeof apart, children, sizeof children, -1), TEAKPOOL_DONE,
                   "the second of one point at the floor");
-    expect_number(teakpool_check_priors(apart, sizeof apart, children, sizeof children, 0), TEAKPOOL_SHARED_POINT,
+    expect_number(check_priors_of(apart, sizeof apart, children, sizeof children, 0), TEAKPOOL_SHARED_POINT,
                   "one point, and another record between the two");
 }
 
@@ -214,13 +229,13 @@ static void prior_sizes(void)
     }
     for EACH(i, rows) {
         for (int32_t floor = 0; floor <= 1; floor++) {
-            expect_number(teakpool_check_priors(large_nodes, rows[i].nodes_length, large_children, rows[i].children_length, floor),
+            expect_number(check_priors_of(large_nodes, rows[i].nodes_length, large_children, rows[i].children_length, floor),
                           rows[i].number, rows[i].what);
         }
     }
     put_word(large_nodes, 0xffffffffu);
     put_word(large_nodes + 4, TEAKPOOL_MAX_NODES - 1);
-    expect_number(teakpool_check_priors(large_nodes, TEAKPOOL_MAX_NODES * 16, large_children, 0, 1), TEAKPOOL_SHARED_POINT,
+    expect_number(check_priors_of(large_nodes, TEAKPOOL_MAX_NODES * 16, large_children, 0, 1), TEAKPOOL_SHARED_POINT,
                   "the first and the last of the most records with one point");
 }
 
@@ -233,9 +248,9 @@ static void prior_chains(void)
         put_record(large_children + 16 * i, 0, i, 1, i == TEAKPOOL_MAX_CHAIN ? 0 : i + 2);
     }
     put_record(node, 1, 7, 0, 2);
-    expect_number(teakpool_check_priors(node, sizeof node, large_children, length, INT32_MIN), TEAKPOOL_DONE, "the longest chain");
+    expect_number(check_priors_of(node, sizeof node, large_children, length, INT32_MIN), TEAKPOOL_DONE, "the longest chain");
     put_record(node, 1, 7, 0, 1);
-    expect_number(teakpool_check_priors(node, sizeof node, large_children, length, INT32_MIN), TEAKPOOL_LINKS,
+    expect_number(check_priors_of(node, sizeof node, large_children, length, INT32_MIN), TEAKPOOL_LINKS,
                   "a chain past the longest");
 }
 

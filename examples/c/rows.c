@@ -34,6 +34,31 @@ static void lend(void)
     expect(teakpool_check_priors(nodes, 15, children, sizeof children, INT32_MIN) == TEAKPOOL_PRIOR_SIZES, "a part of a record");
 }
 
+/* The chain of (1,7) is (0,7) with 2, (0,9) with 3. */
+static void look_children_up(void)
+{
+    static const struct {
+        int32_t scale;
+        uint32_t point;
+        int32_t child_scale;
+        uint32_t child_point, code, count, read;
+        const char *what;
+    } rows[] = {
+        {1, 7, 0, 7, TEAKPOOL_DONE, 2, 1, "the first child"},
+        {1, 7, 0, 9, TEAKPOOL_DONE, 3, 2, "the last child"},
+        {1, 7, -1, 9, TEAKPOOL_NONE, 77, 1, "a child before the first: none, and the count is not written"},
+        {1, 7, 0, 8, TEAKPOOL_NONE, 77, 2, "a child between the two"},
+        {1, 7, 1, 0, TEAKPOOL_NONE, 77, 2, "a child past the last"},
+        {0, 9, 0, 7, TEAKPOOL_NONE, 77, 0, "a child of a node without a prior: none, and nothing is read"},
+    };
+    for (size_t i = 0; i < sizeof rows / sizeof rows[0]; i++) {
+        uint32_t count = 77, read = 78;
+        uint32_t code = teakpool_child(nodes, sizeof nodes, children, sizeof children, INT32_MIN, rows[i].scale, rows[i].point,
+                                       rows[i].child_scale, rows[i].child_point, &count, &read);
+        expect(code == rows[i].code && count == rows[i].count && read == rows[i].read, rows[i].what);
+    }
+}
+
 static void open_tracker(void)
 {
     memset(book, 170, sizeof book);
@@ -236,6 +261,7 @@ int main(void)
     put_address(path, 1, 7);
     put_address(path + TEAKPOOL_STEP_SIZE, 0, 9);
     lend();
+    look_children_up();
     open_tracker();
     add(path, sizeof path, 3, 1);
     read_one_divergence(6.0);

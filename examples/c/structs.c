@@ -81,6 +81,24 @@ static void checks(void)
            "a part of a child record");
 }
 
+static void children_found(void)
+{
+    struct teakpool_child_found found = {9, 9};
+    struct teakpool_address child = teakpool_make_address(0, 9);
+    uint32_t plain_count = 8, plain_read = 8;
+    expect(teakpool_priors_child(priors, node, child, &found) == TEAKPOOL_DONE, "a child in a prior");
+    expect(teakpool_child(nodes, sizeof nodes, children, sizeof children, INT32_MIN, 1, 7, 0, 9, &plain_count, &plain_read) ==
+               TEAKPOOL_DONE,
+           "the same, plain");
+    expect(found.count == 3 && found.count == plain_count && found.read == 2 && found.read == plain_read, "its count, in two reads");
+    expect(teakpool_priors_child(priors, child, node, &found) == TEAKPOOL_NONE && found.count == 3 && found.read == 1,
+           "the two in each other's place: none leaves the count, and tells what was read");
+    expect(teakpool_priors_child(teakpool_priors_with_floor(priors, teakpool_make_floor(2)), teakpool_make_address(-4, 7), child,
+                                 &found) == TEAKPOOL_DONE &&
+               found.count == 3,
+           "the floor is handed on");
+}
+
 static void vectors(void)
 {
     uint8_t addresses[2 * TEAKPOOL_STEP_SIZE], plain_addresses[sizeof addresses];
@@ -206,7 +224,10 @@ static void nothing_lent(void)
     struct teakpool_baseline baseline = teakpool_make_baseline(NULL, NULL, 0);
     struct teakpool_list list = {9, 9, {0, 0}};
     struct teakpool_usual usual;
+    struct teakpool_child_found found = {9, 9};
     expect(teakpool_priors_check(no_priors) == TEAKPOOL_DONE, "no priors");
+    expect(teakpool_priors_child(no_priors, node, node, &found) == TEAKPOOL_NONE && found.count == 9 && found.read == 0,
+           "no child in no priors");
     expect(teakpool_tables_check(teakpool_make_tables(teakpool_make_g(NULL, 0), teakpool_make_d(NULL, 0))) ==
                TEAKPOOL_TABLE_LENGTHS,
            "no tables");
@@ -232,6 +253,7 @@ static void something_missing(void)
     uint32_t knots[1];
     double figures[2], values[TEAKPOOL_KNOT_VALUES];
     struct teakpool_vector vector;
+    struct teakpool_child_found found = {9, 8};
     struct teakpool_book no_book = teakpool_make_book(NULL, sizeof book_bytes);
     struct teakpool_queue queue = teakpool_make_queue(queue_bytes, sizeof queue_bytes);
     struct teakpool_baseline baseline = teakpool_make_baseline(knots, values, 1);
@@ -248,6 +270,10 @@ static void something_missing(void)
     expect(teakpool_priors_check(teakpool_make_priors(priors.nodes, teakpool_make_children(NULL, sizeof children))) ==
                TEAKPOOL_PRIOR_SIZES,
            "missing child records");
+    expect(teakpool_priors_child(teakpool_make_priors(priors.nodes, teakpool_make_children(NULL, sizeof children)), node, node,
+                                 &found) == TEAKPOOL_PRIOR_SIZES &&
+               found.count == 9 && found.read == 8,
+           "a child where its records are missing");
     tracker = teakpool_make_tracker(no_book, queue);
     expect(teakpool_tracker_open(&tracker, 1) == TEAKPOOL_FORM, "a missing book");
     expect(teakpool_baseline_train(&baseline, priors, tables, sequences, no_book) == TEAKPOOL_FORM, "no book to train in");
@@ -291,6 +317,7 @@ int main(void)
     fields();
     lend(LENGTH - 1);
     checks();
+    children_found();
     open_and_add(9);
     vectors();
     divergences();

@@ -1,7 +1,7 @@
 //! What readings and trainings are lent beside a tracker: tables and priors. Every call tests
 //! them itself; `check` does so alone.
 
-use crate::refusal::done;
+use crate::refusal::{answered, done};
 use crate::{Address, Refusal};
 
 /// The tables of ln gamma and digamma: index k holds the value at k, index 0 is never read.
@@ -103,6 +103,59 @@ impl<'a> Priors<'a> {
     pub fn check(&self) -> Result<(), Refusal> {
         done(archive::check_priors(self.parts()), Address::default())
     }
+
+    /// A child's count in a node's prior, and how many child records its look-up read: chains ascend, so
+    /// it ends at the first one that is not below the child.
+    ///
+    /// # Errors
+    /// 3 to 7 and 22 for the priors.
+    ///
+    #[cfg_attr(feature = "std", doc = "```")]
+    #[cfg_attr(not(feature = "std"), doc = "```ignore")]
+    /// use teakpool::*;
+    ///
+    /// let (node, seven, nine) = (Address::new(1, 7), Address::new(0, 7), Address::new(0, 9));
+    /// let mut records = PriorRecords::default();
+    /// records.node(node, 1, &[(seven, 2), (nine, 3)]);
+    /// let priors = records.lent();
+    /// assert_eq!(priors.child(node, seven)?, ChildLookup { count: Some(2), read: 1 });
+    /// assert_eq!(priors.child(node, nine)?, ChildLookup { count: Some(3), read: 2 });
+    /// // The first record is past -1/9, and ends the look-up.
+    /// assert_eq!(priors.child(node, Address::new(-1, 9))?, ChildLookup { count: None, read: 1 });
+    /// // 0/9 has no prior.
+    /// assert_eq!(priors.child(nine, seven)?, ChildLookup { count: None, read: 0 });
+    ///
+    /// // A path that goes on from the node in a way never seen before is refused with the node; this
+    /// // tells the child.
+    /// let (tables, path) = (gamma_tables(10), [node, nine, node, node]);
+    /// let answer = try_path(tables.lent(), priors, &path);
+    /// assert_eq!(answer, Err(Refusal::MissingChild(node)));
+    /// let mut children = path.windows(2).filter(|step| step[0] == node).map(|step| step[1]);
+    /// let unseen = |child: &Address| priors.child(node, *child).is_ok_and(|found| found.count.is_none());
+    /// assert_eq!(children.find(unseen), Some(node));
+    /// # Ok::<(), Refusal>(())
+    /// ```
+    pub fn child(&self, node: Address, child: Address) -> Result<ChildLookup, Refusal> {
+        let (mut count, mut read) = (0, 0);
+        let answer = archive::child(
+            self.parts(),
+            (node.scale, node.point),
+            (child.scale, child.point),
+            (&mut count, &mut read),
+        );
+        let count = answered(answer, node, count)?;
+        Ok(ChildLookup { count, read })
+    }
+}
+
+/// What [`Priors::child`] tells.
+#[derive(Debug, Clone, Copy, PartialEq, Eq)]
+pub struct ChildLookup {
+    /// The child's count. None if the node has no prior, or its prior does not have the child.
+    pub count: Option<u32>,
+    /// How many records of the node's chain the look-up read: those below the child's address, and one
+    /// more if the chain goes on. It is at most 64, and 0 if the node has no prior or no children.
+    pub read: u32,
 }
 
 /// Bytes of a node record and of a child record.

@@ -68,13 +68,13 @@ pub use gamma::fill_gamma_tables;
 pub use gamma::{gamma_tables, GammaTables};
 #[cfg(feature = "std")]
 pub use lent::PriorRecords;
-pub use lent::{record_bytes, Priors, Tables, RECORD_BYTES};
+pub use lent::{record_bytes, ChildLookup, Priors, Tables, RECORD_BYTES};
 pub use refusal::Refusal;
 pub use tracker::{
     try_path, KLDivergenceStats, NodeKlList, Output, ProbVector, State, Tracker, ENTRY_BYTES, PLACE_BYTES,
 };
 
-/// The crate's version, as `"0.2.0"`.
+/// The crate's version, as `"0.3.0"`.
 pub const VERSION: &str = env!("CARGO_PKG_VERSION");
 
 /// The linked archive's version: major, minor, patch.

@@ -182,6 +182,14 @@ pub(crate) fn done(answer: u32, node: Address) -> Result<(), Refusal> {
     }
 }
 
+/// A value, goko's `None`, or a refusal.
+pub(crate) fn answered<T>(answer: u32, node: Address, value: T) -> Result<Option<T>, Refusal> {
+    match answer {
+        archive::raw::NONE => Ok(None),
+        answer => done(answer, node).map(|()| Some(value)),
+    }
+}
+
 #[cfg(test)]
 mod tests {
     use super::Refusal;

@@ -1,7 +1,7 @@
 //! A tracker: its state, and the book and queue that it is lent. The readings change nothing.
 
 use crate::address::PathBytes;
-use crate::refusal::done;
+use crate::refusal::{answered, done};
 use crate::{Address, Priors, Refusal, Tables, MAX_STEPS};
 
 /// Bytes of a book entry.
@@ -409,12 +409,4 @@ pub fn try_path(tables: Tables, priors: Priors, path: &[Address]) -> Result<(), 
     let mut tracker = Tracker::open(0, &mut book, &mut [])?;
     tracker.add_path(path)?;
     tracker.kl_div_stats(tables, priors).map(|_| ())
-}
-
-/// A value, goko's `None`, or a refusal.
-fn answered<T>(answer: u32, node: Address, value: T) -> Result<Option<T>, Refusal> {
-    match answer {
-        archive::raw::NONE => Ok(None),
-        answer => done(answer, node).map(|()| Some(value)),
-    }
 }

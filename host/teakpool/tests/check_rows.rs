@@ -256,6 +256,82 @@ fn nodes_below_the_floor_are_found_by_their_points() {
     }
 }
 
+/// Asks for children, each with the count, or none, and the records read that are expected.
+fn looked_up(priors: Priors, expected: &[(Address, Address, Option<u32>, u32)]) {
+    for (node, child, count, read) in expected.iter().copied() {
+        let found = Ok(ChildLookup { count, read });
+        assert_eq!(priors.child(node, child), found, "{} under {}", child, node);
+    }
+}
+
+#[test]
+fn children_in_a_prior() {
+    let expected = [
+        (NODE, SEVEN, Some(2), 1),
+        (NODE, NINE, Some(3), 2),
+        (NODE, Address::new(-1, 9), None, 1),
+        (NODE, Address::new(0, 8), None, 2),
+        (NODE, Address::new(1, 0), None, 2),
+        (NINE, SEVEN, None, 0),
+    ];
+    looked_up(Kit::up_to(7).priors(), &expected);
+}
+
+#[test]
+fn children_of_the_widest_node() {
+    let (root, leaf) = (Address::new(40, 0), Address::new(41, 0));
+    let child = |place: u32, point: u32| Address::new(place as i32 - 32, point);
+    let record = |place: u32| record_bytes(child(place, 10), 100 + place, (place + 2) % 65);
+    let children = (0..64).map(record).collect::<Vec<_>>().concat();
+    let nodes = [record_bytes(root, 0, 1), record_bytes(leaf, 1, 0)].concat();
+    let priors = Priors::new(&nodes, &children);
+    looked_up(priors, &[(leaf, child(0, 10), None, 0)]);
+    for place in 0..64 {
+        let expected = [
+            (root, child(place, 9), None, place + 1),
+            (root, child(place, 10), Some(100 + place), place + 1),
+            (root, child(place, 11), None, 64.min(place + 2)),
+        ];
+        looked_up(priors, &expected);
+    }
+}
+
+#[test]
+fn children_below_the_floor_are_found_by_their_addresses() {
+    let kit = fine_kit(7);
+    looked_up(kit.priors(), &[(RECORDED, NINE, Some(3), 2), (MET, NINE, None, 0)]);
+    let expected = [
+        (RECORDED, NINE, Some(3), 2),
+        (MET, NINE, Some(3), 2),
+        (MET, Address::new(-1, 9), None, 1),
+        (MET, Address::new(1, 7), None, 2),
+    ];
+    looked_up(kit.priors().with_floor(2), &expected);
+}
+
+#[test]
+fn children_in_priors_that_are_refused() {
+    let kit = Kit::up_to(7);
+    let (two, chain) = ([record_bytes(SEVEN, 1, 0), kit.nodes].concat(), kit.children.as_slice());
+    let changed = |at: usize, byte: u8| {
+        let mut children = kit.children.clone();
+        children[at] = byte;
+        children
+    };
+    let asked = |nodes: &[u8], children: &[u8], floor: i32| {
+        let priors = Priors::new(nodes, children).with_floor(floor);
+        assert_eq!(priors.child(NODE, NINE).map(|_| ()), priors.check());
+        priors.check()
+    };
+    assert_eq!(asked(&two, chain, i32::MIN), Ok(()));
+    assert_eq!(asked(&two[1..], chain, i32::MIN), Err(Refusal::PriorSizes));
+    assert_eq!(asked(&[kit.nodes, kit.nodes].concat(), chain, i32::MIN), Err(Refusal::NodeOrder));
+    assert_eq!(asked(&two, &changed(12, 3), i32::MIN), Err(Refusal::Links));
+    assert_eq!(asked(&two, &changed(4, 9), i32::MIN), Err(Refusal::ChainOrder));
+    assert_eq!(asked(&two, &changed(8, 0), i32::MIN), Err(Refusal::ZeroPrior));
+    assert_eq!(asked(&two, chain, NODE.scale + 1), Err(Refusal::SharedPoint));
+}
+
 #[test]
 fn what_names_a_node_names_the_one_that_was_met() {
     let tried = |last: u32, path: &[Address]| {
