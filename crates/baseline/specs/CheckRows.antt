@@ -1,5 +1,5 @@
--- The kit's check rows marked *, rows with a floor and of a child's look-up, and where minus zero comes out of `stats` and where it does not: each row is an equation about the definitions that the functions'
--- contracts cite, figures by `≡`, and one proof shows that all hold. Assumes nothing.
+-- The kit's check rows marked *, rows with a floor and of a child's look-up, and where minus zero comes out of `stats` and where it does not: each row is an
+-- equation about the definitions that the functions' contracts cite, figures by `≡`, and one proof shows that all hold. Assumes nothing.
 use mathlib.Core.Path.{_≡_, refl}
 use mathlib.Core.List.{List, [], _∷_, _++_, map, flatMap}
 use mathlib.Core.Option.{Option, none, some}
@@ -102,8 +102,8 @@ twoUnder floor = priorsRefusal (fineNodes ++ (addressOn 4294967292 7 ++ (wordByt
 abbrev pub childOfNode : ℕ → ℕ → Reading ChildLook
 childOfNode node child = childAsked (lentPriors nodes children leastFloor) node child
 
-abbrev pub childOfNone : ℕ → Reading ChildLook
-childOfNone child = childAsked (lentPriors (addressOn 1 7 ++ (wordBytes 1 ++ wordBytes 0)) [] leastFloor) (rank 1 7) child
+abbrev pub childOfLeaf : ℕ → Reading ChildLook
+childOfLeaf child = childAsked (lentPriors (addressOn 1 7 ++ (wordBytes 1 ++ wordBytes 0)) [] leastFloor) (rank 1 7) child
 
 abbrev pub looked : Option ℕ → ℕ → Reading ChildLook
 looked count read = answered (record { count = count; read = read })
@@ -232,14 +232,15 @@ Rows =
     -- records at (-5,7) and (-4,7): 22 with floor -3, none with floor -4
     × (twoUnder (negsuc 2) ≡ 22)
     × (twoUnder (negsuc 3) ≡ 0)
-    -- children of (1,7), count and records read: (0,7) 2 and 1, (0,9) 3 and 2; none of (-1,9) and 1, before the first, of (0,8) and 2, between, of (1,0) and 2, past the last
+    -- children of (1,7), count and records read: of (0,7) 2 and 1, of (0,9) 3 and 2; of (-1,9), before the first, none and 1; of (0,8), between, and of (1,0),
+    -- past the last, none and 2
     × (childOfNode (rank 1 7) (rank 0 7) ≡ looked (some 2) 1)
     × (childOfNode (rank 1 7) (rank 0 9) ≡ looked (some 3) 2)
     × (childOfNode (rank 1 7) (rank 4294967295 9) ≡ looked none 1)
     × (childOfNode (rank 1 7) (rank 0 8) ≡ looked none 2)
     × (childOfNode (rank 1 7) (rank 1 0) ≡ looked none 2)
     -- none and 0: in an empty chain, and where the node has no prior
-    × (childOfNone (rank 0 7) ≡ looked none 0)
+    × (childOfLeaf (rank 0 7) ≡ looked none 0)
     × (childOfNode (rank 0 9) (rank 0 7) ≡ looked none 0)
     -- first add, book of two entries: 12; of three: taken
     × (firstAdd 2 ≡ 12)

@@ -1,4 +1,4 @@
--- How many child records a look-up reads, by the walk that ends with the first row not below its key; and that nothing past them is used. Assumes nothing.
+-- How many child records a look-up reads, by the walk that ends with the first row not below its key; and that nothing past them decides. Assumes nothing.
 use mathlib.Core.Path.{_≡_, refl, sym, ap, _∙_}
 use Prim.Native.Nat.{ℕ, zero, suc, _+_, _-_, _≤_, _<_, compare}
 use native.Mathlib.Omega.{arith}
@@ -40,7 +40,7 @@ reads-on : (k : ℕ) (r : Row) (rs : List Row) → r .key < k → readsOf k (r �
 unfolding readsOf belowIn
 reads-on k r rs l = rw (lt-ltb (r .key) k l, ltb-same (1 + belowIn k rs) (length (r ∷ rs)) (belowIn k rs) (length rs) (λ h. omega arith) (λ h. omega arith)) (omega arith)
 
-pub reads-exact : (k a : ℕ) (rs : List Row) → Ascends a (keys rs) → walked k rs ≡ readsOf k rs
+reads-exact : (k a : ℕ) (rs : List Row) → Ascends a (keys rs) → walked k rs ≡ readsOf k rs
 unfolding walked readsOf belowIn
 reads-exact k a [] h = refl
 reads-exact k a (r ∷ rs) h = go (side k (r .key)) (reads-exact k (suc (r .key)) rs (h .1))
@@ -67,7 +67,7 @@ walked-le k (r ∷ rs) = go (side k (r .key)) (walked-le k rs)
 
 -- ---- a step of the walk along a chain
 
--- what a look-up finds, and what it reads
+-- what the walk finds, and how many rows it reads
 pub record Walk (k : ℕ) (rs : List Row) (found : Option ℕ) (read : ℕ) : Type 0 where
   pub finds : look k rs ≡ found
   pub reads : walked k rs ≡ read
@@ -79,7 +79,7 @@ module _ (children : List ℕ) (rising : everyChild children (nextLinkFits child
   chain-rows : childrenOf children link ≡ row (here .rank) (here .count) ∷ childrenOf children (here .link)
   chain-rows = ap (map (λ (r : Record). row (r .rank) (r .count))) (chain-step children rising link within fits)
 
-  -- its record is past the key, has it, or is below it
+  -- by the record at the link: it is past the key, has it, or is below it
   pub walk-past : k < here .rank → Walk k (childrenOf children link) none 1
   unfolding look walked
   walk-past l = rw chain-rows (record { finds = rw (compare-lt k (here .rank) l); reads = rw (compare-lt k (here .rank) l) })
@@ -92,7 +92,7 @@ module _ (children : List ℕ) (rising : everyChild children (nextLinkFits child
   unfolding look walked
   walk-on l = rw chain-rows (record { finds = rw (compare-gt k (here .rank) l); reads = rw (compare-gt k (here .rank) l) })
 
--- ---- nothing past them is used
+-- ---- nothing past them decides
 
 same-head : (a b : Record) (xs ys : List Record) (n : ℕ) → take (suc n) (a ∷ xs) ≡ take (suc n) (b ∷ ys) → (a ≡ b) × (take n xs ≡ take n ys)
 same-head a b xs ys n h = (cc, cc)
