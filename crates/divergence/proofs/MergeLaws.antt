@@ -9,7 +9,7 @@ use lib.ListN.{length, drop, length-map}
 use Rattle.priors.specs.declared.records.Record.{Record}
 use Rattle.priors.specs.Rows.{Row, row, keys, Ascends, look, change}
 use Rattle.priors.specs.Priors.{recordAt, recordCount, chainOf, childrenOf}
-use Rattle.priors.proofs.ChainLaws.{next-small, chain-end, chain-step}
+use Rattle.priors.proofs.ChainLaws.{next-small, rows-end, rows-step}
 use Rattle.priors.proofs.Orders.{compare-lt, compare-gt, compare-self}
 use Rattle.priors.proofs.RowLaws.{ascends-from, gained, length-change}
 use Rattle.book.specs.Entries.{rowAt}
@@ -104,7 +104,7 @@ module _ (children : List ℕ) (link : ℕ) (book : List ℕ) (at end : ℕ) (re
   -- the chain's first record, and what is asked of the chain after it
   module _ (more : 0 < link) (prior : Record) (is : prior ≡ recordAt children (link - 1)) where
     chain-is : childrenOf children link ≡ row (prior .rank) (prior .count) ∷ childrenOf children (prior .link)
-    chain-is = rw is (ap (map (λ (r : Record). row (r .rank) (r .count))) (chain-step children (ready .links-rise) link more (ready .link-fits)))
+    chain-is = rw is (rows-step children (ready .links-rise) link more (ready .link-fits))
 
     next-fits : prior .link ≤ recordCount children
     next-fits = rw is (next-small children (ready .links-rise) (link - 1) (omega (arith, ready .link-fits)))
@@ -119,7 +119,7 @@ module _ (children : List ℕ) (link : ℕ) (book : List ℕ) (at end : ℕ) (re
     }
 
   no-chain : link ≡ 0 → childrenOf children link ≡ []
-  no-chain gone = ap (childrenOf children) gone ∙ ap (map (λ (r : Record). row (r .rank) (r .count))) (chain-end children (ready .links-rise))
+  no-chain gone = ap (childrenOf children) gone ∙ rows-end children (ready .links-rise)
 
   pub only-entry : link ≡ 0 → at < end → (child : Child) → row (child .rank) (child .count) ≡ childRow (rowAt book (24 * at)) → child .count < 2 ^ 32
       → FirstMerged children link book at end (ofEntry child link at)

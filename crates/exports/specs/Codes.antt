@@ -1,4 +1,5 @@
--- A call's code by what the call answers, and what a lent number holds afterwards: an answer writes it; none and a refusal leave it, but a node that a refusal names is written. Assumes nothing.
+-- A call's code by what the call answers, and what a lent number holds afterwards: an answer writes it; none and a refusal leave it, but a node that a refusal names
+-- is written. The number that a child's look-up reads is an answer also where the child's count is none. Assumes nothing.
 use Prim.Native.Nat.{ℕ}
 use mathlib.Core.Option.{Option, none, some}
 use lib.IntN.{ℤ}

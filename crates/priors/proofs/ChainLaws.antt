@@ -67,6 +67,14 @@ module _ (children : List ℕ) (rising : everyChild children (nextLinkFits child
   chain-step zero h l = absurd (omega arith)
   chain-step (suc i) h l = let e : suc i - 1 ≡ i = omega arith in rw e (chain-from i (omega arith))
 
+  -- as rows
+  pub rows-end : childrenOf children 0 ≡ []
+  rows-end = ap (map (λ (r : Record). row (r .rank) (r .count))) chain-end
+
+  pub rows-step : (link : ℕ) → 0 < link → link ≤ recordCount children
+      → childrenOf children link ≡ row (recordAt children (link - 1) .rank) (recordAt children (link - 1) .count) ∷ childrenOf children (recordAt children (link - 1) .link)
+  rows-step link h l = ap (map (λ (r : Record). row (r .rank) (r .count))) (chain-step link h l)
+
   -- the length falls
   pub chain-length : (link : ℕ) → 0 < link → link ≤ recordCount children → length (chainOf children link) ≡ suc (length (chainOf children (recordAt children (link - 1) .link)))
   chain-length link h l = ap length (chain-step link h l)
@@ -75,5 +83,5 @@ module _ (children : List ℕ) (rising : everyChild children (nextLinkFits child
   pub chain-counts : (link : ℕ) → 0 < link → link ≤ recordCount children → recordAt children (link - 1) .count ≤ countSum (childrenOf children link)
   unfolding countSum
   chain-counts link h l =
-      let on : countSum (childrenOf children link) ≡ recordAt children (link - 1) .count + countSum (childrenOf children (recordAt children (link - 1) .link)) = ap (λ (rs : List Record). countSum (map (λ (r : Record). row (r .rank) (r .count)) rs)) (chain-step link h l) in
+      let on : countSum (childrenOf children link) ≡ recordAt children (link - 1) .count + countSum (childrenOf children (recordAt children (link - 1) .link)) = ap countSum (rows-step link h l) in
       omega arith

@@ -3,21 +3,24 @@ use mathlib.Core.Path.{_≡_, refl, sym, ap, _∙_}
 use Prim.Native.Nat.{ℕ, zero, suc, _+_, _-_, _≤_, _<_, compare}
 use native.Mathlib.Omega.{arith}
 use mathlib.Core.Bool.{true}
-use mathlib.Core.List.{List, [], _∷_, map}
+use mathlib.Core.List.{List, [], _∷_}
 use mathlib.Core.Option.{Option, none, some}
 use lib.ListN.{length, take, length-map}
 use borrow.Author.Tests.{lt-ltb, le-ltb}
 use Rattle.priors.specs.declared.records.Record.{Record}
+use Rattle.priors.specs.declared.refusals.Refusal.{Refusal}
 use Rattle.priors.specs.Limits.{maxChain}
-use Rattle.priors.specs.Reading.{Reading, refused, answered, unless}
+use Rattle.priors.specs.Refusals.{numberOf, namedNode}
+use Rattle.priors.specs.Reading.{Reading, refused, answered}
 use Rattle.priors.specs.Rows.{Row, row, keys, Ascends, choose, countOf, look}
-use Rattle.priors.specs.Priors.{layerOf, recordAt, recordCount, records, ascends, findRecord, chainOf, childrenOf, everyChild, nextLinkFits, priorOf, priorsRefusal}
-use Rattle.priors.specs.Children.{belowIn, readsOf, ChildLook, lookIn, ReadsAtMost, NothingPast}
+use Rattle.priors.specs.Priors.{LentPriors, lentPriors, layerOf, recordAt, recordCount, records, ascends, findRecord, chainOf, childrenOf, everyChild, nextLinkFits, priorOf, priorsRefusal}
+use Rattle.priors.specs.Children.{belowIn, readsOf, ChildLook, childAsked, ReadsAtMost, SameAsRead, NothingPast}
 use Rattle.priors.proofs.Tests.{ltb-same}
 use Rattle.priors.proofs.Orders.{Side, below, same, above, side, compare-lt, compare-gt, compare-self}
 use Rattle.priors.proofs.Exactly.{rows-ascend, chain-exact}
-use Rattle.priors.proofs.ChainLaws.{next-small, chain-end, chain-step, chain-length}
+use Rattle.priors.proofs.ChainLaws.{rows-step}
 use Rattle.priors.proofs.PriorLaws.{accepted, found-fits}
+use Rattle.priors.proofs.RuleLaws.{priors-unnamed, unless-refused}
 
 -- the rows of a walk that ends with the first one not below k
 unfoldable pub walked : ℕ → List Row → ℕ
@@ -76,115 +79,90 @@ module _ (children : List ℕ) (rising : everyChild children (nextLinkFits child
   abbrev here : Record
   here = recordAt children (link - 1)
 
-  chain-rows : childrenOf children link ≡ row (here .rank) (here .count) ∷ childrenOf children (here .link)
-  chain-rows = ap (map (λ (r : Record). row (r .rank) (r .count))) (chain-step children rising link within fits)
-
   -- by the record at the link: it is past the key, has it, or is below it
   pub walk-past : k < here .rank → Walk k (childrenOf children link) none 1
   unfolding look walked
-  walk-past l = rw chain-rows (record { finds = rw (compare-lt k (here .rank) l); reads = rw (compare-lt k (here .rank) l) })
+  walk-past l = rw (rows-step children rising link within fits) (record { finds = rw (compare-lt k (here .rank) l); reads = rw (compare-lt k (here .rank) l) })
 
   pub walk-found : here .rank ≡ k → Walk k (childrenOf children link) (some (here .count)) 1
   unfolding look walked
-  walk-found e = rw chain-rows (record { finds = rw (e, compare-self k); reads = rw (e, compare-self k) })
+  walk-found e = rw (rows-step children rising link within fits) (record { finds = rw (e, compare-self k); reads = rw (e, compare-self k) })
 
   pub walk-on : here .rank < k → Walk k (childrenOf children link) (look k (childrenOf children (here .link))) (suc (walked k (childrenOf children (here .link))))
   unfolding look walked
-  walk-on l = rw chain-rows (record { finds = rw (compare-gt k (here .rank) l); reads = rw (compare-gt k (here .rank) l) })
+  walk-on l = rw (rows-step children rising link within fits) (record { finds = rw (compare-gt k (here .rank) l); reads = rw (compare-gt k (here .rank) l) })
 
 -- ---- nothing past them decides
 
-same-head : (a b : Record) (xs ys : List Record) (n : ℕ) → take (suc n) (a ∷ xs) ≡ take (suc n) (b ∷ ys) → (a ≡ b) × (take n xs ≡ take n ys)
+same-head : (a b : Row) (xs ys : List Row) (n : ℕ) → take (suc n) (a ∷ xs) ≡ take (suc n) (b ∷ ys) → (a ≡ b) × (take n xs ≡ take n ys)
 same-head a b xs ys n h = (cc, cc)
 
-module _ (k : ℕ) (children others : List ℕ) (rising : everyChild children (nextLinkFits children) ≡ true) (others-rise : everyChild others (nextLinkFits others) ≡ true) where
-  abbrev Alike : ℕ → Type 0
-  Alike link = (look k (childrenOf children link) ≡ look k (childrenOf others link)) × (walked k (childrenOf children link) ≡ walked k (childrenOf others link))
+-- rows that are the same as far as the first are walked, and end with them if these are all below k
+same-walk : (k : ℕ) (rs others : List Row) → take (walked k rs) rs ≡ take (walked k rs) others → (belowIn k rs ≡ length rs → length others ≡ length rs)
+    → (look k rs ≡ look k others) × (walked k rs ≡ walked k others)
+unfolding look walked belowIn
+same-walk k [] [] h ends = (refl, refl)
+same-walk k [] (o ∷ os) h ends = absurd (omega (arith, ends refl))
+same-walk k (r ∷ rs) [] h ends = absurd (go (side k (r .key)))
+  where
+    go : Side k (r .key) → ⊥
+    go (below l e) = let z = ap length (rw e at h) in omega arith
+    go (same q e) = let z = ap length (rw e at h) in omega arith
+    go (above l e) = let z = ap length (rw e at h) in omega arith
+same-walk k (r ∷ rs) (o ∷ os) h ends = go (side k (r .key)) (λ same ended. same-walk k rs os same ended)
+  where
+    go : Side k (r .key) → (take (walked k rs) rs ≡ take (walked k rs) os → (belowIn k rs ≡ length rs → length os ≡ length rs) → (look k rs ≡ look k os) × (walked k rs ≡ walked k os))
+        → (look k (r ∷ rs) ≡ look k (o ∷ os)) × (walked k (r ∷ rs) ≡ walked k (o ∷ os))
+    go (below l e) further = rw (← same-head r o rs os 0 (rw e at h) .0, e) (refl, refl)
+    go (same q e) further = rw (← same-head r o rs os 0 (rw e at h) .0, e) (refl, refl)
+    go (above l e) further =
+        let both = same-head r o rs os (walked k rs) (rw e at h) in
+        let rest = further (both .1) (λ all. omega (arith, ends (rw (lt-ltb (r .key) k l) (omega arith)))) in
+        rw (← both .0, e) (rest .0, ap suc (rest .1))
 
-  -- the chains of one link have the same records, as far as the first is walked
-  abbrev Agree : ℕ → Type 0
-  Agree link = (link ≤ recordCount children) × ((link ≤ recordCount others) × (take (walked k (childrenOf children link)) (chainOf children link) ≡ take (walked k (childrenOf children link)) (chainOf others link)))
-
-  alike-at : (link : ℕ) → Agree link → ((next : ℕ) → length (chainOf children next) < length (chainOf children link) → Agree next → Alike next) → Alike link
-  alike-at zero h further = rw (chain-end children rising, chain-end others others-rise) (refl, refl)
-  alike-at (suc i) (l, (m, h)) further = go (side k (here .rank))
-    where
-      here : Record
-      here = recordAt children (suc i - 1)
-
-      there : Record
-      there = recordAt others (suc i - 1)
-
-      heads : (n : ℕ) → walked k (childrenOf children (suc i)) ≡ suc n → (here ≡ there) × (take n (chainOf children (here .link)) ≡ take n (chainOf others (there .link)))
-      heads n e =
-          same-head here there (chainOf children (here .link)) (chainOf others (there .link)) n
-          (ap (take (suc n)) (sym (chain-step children rising (suc i) (omega arith) l)) ∙ rw e at h ∙ ap (take (suc n)) (chain-step others others-rise (suc i) (omega arith) m))
-
-      go : Side k (here .rank) → Alike (suc i)
-      go (below q e) =
-          let a = walk-past children rising k (suc i) (omega arith) l q in
-          let b = walk-past others others-rise k (suc i) (omega arith) m (rw (heads 0 (a .reads) .0) at q) in
-          (a .finds ∙ sym (b .finds), a .reads ∙ sym (b .reads))
-      go (same q e) =
-          let a = walk-found children rising k (suc i) (omega arith) l (sym q) in
-          let is = heads 0 (a .reads) .0 in
-          let b = walk-found others others-rise k (suc i) (omega arith) m (rw is at (sym q)) in
-          (a .finds ∙ ap (λ (r : Record). some (r .count)) is ∙ sym (b .finds), a .reads ∙ sym (b .reads))
-      go (above q e) =
-          let a = walk-on children rising k (suc i) (omega arith) l q in
-          let both = heads (walked k (childrenOf children (here .link))) (a .reads) in
-          let b = walk-on others others-rise k (suc i) (omega arith) m (rw (both .0) at q) in
-          let rest = further (here .link) (omega (arith, chain-length children rising (suc i) (omega arith) l)) (next-small children rising (suc i - 1) (omega arith), (rw (both .0) (next-small others others-rise (suc i - 1) (omega arith)), both .1 ∙ ap (λ (r : Record). take (walked k (childrenOf children (here .link))) (chainOf others (r .link))) (sym (both .0)))) in (
-            a .finds ∙ rest .0 ∙ ap (λ (r : Record). look k (childrenOf others (r .link))) (both .0) ∙ sym (b .finds),
-            a .reads ∙ ap suc (rest .1) ∙ ap (λ (r : Record). suc (walked k (childrenOf others (r .link)))) (both .0) ∙ sym (b .reads),
-          )
-
-  alike : (n link : ℕ) → length (chainOf children link) ≤ n → Agree link → Alike link
-  alike zero link few h = alike-at link h (λ next less agree. absurd (omega arith))
-  alike (suc n) link few h = alike-at link h (λ next less agree. alike n next (omega arith) agree)
-
-  -- then a look-up finds and reads the same in both
-  pub same-look : (first : ℕ) → first ≤ recordCount children → first ≤ recordCount others
-      → ascends (chainOf children first) ≡ true
-      → ascends (chainOf others first) ≡ true
-      → take (readsOf k (childrenOf children first)) (chainOf children first) ≡ take (readsOf k (childrenOf children first)) (chainOf others first)
-      → (countOf k (childrenOf children first) ≡ countOf k (childrenOf others first)) × (readsOf k (childrenOf children first) ≡ readsOf k (childrenOf others first))
-  same-look first l m up others-up h =
-      let a = chain-reads children first k up in
-      let b = chain-reads others first k others-up in
-      let both = alike (length (chainOf children first)) first (omega arith) (l, (m, rw (← a) at h)) in
-      (sym (chain-exact children first k up) ∙ both .0 ∙ chain-exact others first k others-up, sym a ∙ both .1 ∙ b)
+-- chains that ascend, of which the second is the first as far as this is read
+same-look : (children others : List ℕ) (first k : ℕ) → ascends (chainOf children first) ≡ true → ascends (chainOf others first) ≡ true
+    → SameAsRead k (childrenOf children first) (childrenOf others first)
+    → (countOf k (childrenOf children first) ≡ countOf k (childrenOf others first)) × (readsOf k (childrenOf children first) ≡ readsOf k (childrenOf others first))
+same-look children others first k up others-up (h, ends) =
+    let a = chain-reads children first k up in
+    let both = same-walk k (childrenOf children first) (childrenOf others first) (rw (← a) at h) ends in
+    (sym (chain-exact children first k up) ∙ both .0 ∙ chain-exact others first k others-up, sym a ∙ both .1 ∙ chain-reads others first k others-up)
 
 -- ---- in lent priors
 
-module _ (nodes children : List ℕ) (layer rank wanted : ℕ) (passed : priorsRefusal nodes children layer ≡ 0) where
-  abbrev told : Reading ChildLook
-  told = unless (priorsRefusal nodes children layer) (answered (lookIn wanted (priorOf nodes children layer rank)))
+-- where a number refuses them
+pub told-refused : (p : LentPriors) (rank wanted : ℕ) (q : Refusal) → numberOf q ≡ priorsRefusal (p .nodes) (p .children) (layerOf (p .floor))
+    → refused (numberOf q) (namedNode q) ≡ childAsked p rank wanted
+told-refused p rank wanted q e = unless-refused q (priorsRefusal (p .nodes) (p .children) (layerOf (p .floor))) _ e (priors-unnamed (p .nodes) (p .children) (layerOf (p .floor)))
 
+module _ (p : LentPriors) (rank wanted : ℕ) (passed : priorsRefusal (p .nodes) (p .children) (layerOf (p .floor)) ≡ 0) where
   -- by the node record that is found, or that none is
-  pub told-in : (node : Record) → findRecord layer rank (records nodes) ≡ some node
-      → told ≡ answered (record { count = countOf wanted (childrenOf children (node .link)); read = readsOf wanted (childrenOf children (node .link)) })
+  pub told-in : (node : Record) → findRecord (layerOf (p .floor)) rank (records (p .nodes)) ≡ some node
+      → childAsked p rank wanted ≡ answered (record { count = countOf wanted (childrenOf (p .children) (node .link)); read = readsOf wanted (childrenOf (p .children) (node .link)) })
   unfolding priorOf
   told-in node found = rw (passed, found)
 
-  pub told-without : findRecord layer rank (records nodes) ≡ none → told ≡ answered (record { count = none; read = 0 })
+  pub told-without : findRecord (layerOf (p .floor)) rank (records (p .nodes)) ≡ none → childAsked p rank wanted ≡ answered (record { count = none; read = 0 })
   unfolding priorOf
   told-without missing = rw (passed, missing)
 
 pub nothing-past : NothingPast
 nothing-past nodes children others floor rank wanted passed others-pass agree = go (findRecord (layerOf floor) rank (records nodes)) refl
   where
-    go : (o : Option Record) → findRecord (layerOf floor) rank (records nodes) ≡ o → told nodes children (layerOf floor) rank wanted passed ≡ told nodes others (layerOf floor) rank wanted others-pass
-    go none missing = told-without nodes children (layerOf floor) rank wanted passed missing ∙ sym (told-without nodes others (layerOf floor) rank wanted others-pass missing)
+    one : LentPriors
+    one = lentPriors nodes children floor
+
+    other : LentPriors
+    other = lentPriors nodes others floor
+
+    go : (o : Option Record) → findRecord (layerOf floor) rank (records nodes) ≡ o → childAsked one rank wanted ≡ childAsked other rank wanted
+    go none missing = told-without one rank wanted passed missing ∙ sym (told-without other rank wanted others-pass missing)
     go (some node) found =
-        let ok = accepted nodes children (layerOf floor) passed in
-        let others-ok = accepted nodes others (layerOf floor) others-pass in
-        let fit = found-fits nodes children (layerOf floor) ok rank node found in
-        let others-fit = found-fits nodes others (layerOf floor) others-ok rank node found in
-        let both = same-look wanted children others (ok .records-fit .rising) (others-ok .records-fit .rising) (node .link) (fit .link-fits) (others-fit .link-fits) (fit .ascending) (others-fit .ascending) (agree node found) in
-        told-in nodes children (layerOf floor) rank wanted passed node found
-        ∙ (λ i. answered (record { count = both .0 i; read = both .1 i }))
-        ∙ sym (told-in nodes others (layerOf floor) rank wanted others-pass node found)
+        let fit = found-fits nodes children (layerOf floor) (accepted nodes children (layerOf floor) passed) rank node found in
+        let others-fit = found-fits nodes others (layerOf floor) (accepted nodes others (layerOf floor) others-pass) rank node found in
+        let both = same-look children others (node .link) wanted (fit .ascending) (others-fit .ascending) (agree node found) in
+        told-in one rank wanted passed node found ∙ (λ i. answered (record { count = both .0 i; read = both .1 i })) ∙ sym (told-in other rank wanted others-pass node found)
 
 answer-is : (a b : ChildLook) → answered a ≡ answered b → a ≡ b
 answer-is a b h = cc
@@ -194,10 +172,10 @@ reads-at-most p rank wanted l h = go (priorsRefusal (p .nodes) (p .children) (la
   where
     by-record : priorsRefusal (p .nodes) (p .children) (layerOf (p .floor)) ≡ 0 → (o : Option Record) → findRecord (layerOf (p .floor)) rank (records (p .nodes)) ≡ o → l .read ≤ maxChain
     by-record passed none missing =
-        let e = answer-is _ _ (sym (told-without (p .nodes) (p .children) (layerOf (p .floor)) rank wanted passed missing) ∙ h) in
+        let e = answer-is _ _ (sym (told-without p rank wanted passed missing) ∙ h) in
         omega (arith, ap (λ (x : ChildLook). x .read) e)
     by-record passed (some node) found =
-        let e = answer-is _ _ (sym (told-in (p .nodes) (p .children) (layerOf (p .floor)) rank wanted passed node found) ∙ h) in
+        let e = answer-is _ _ (sym (told-in p rank wanted passed node found) ∙ h) in
         let fit = found-fits (p .nodes) (p .children) (layerOf (p .floor)) (accepted (p .nodes) (p .children) (layerOf (p .floor)) passed) rank node found in
         omega (arith, ap (λ (x : ChildLook). x .read) e, fit .short, chain-reads (p .children) (node .link) wanted (fit .ascending), walked-le wanted (childrenOf (p .children) (node .link)), length-map (chainOf (p .children) (node .link)) (λ (r : Record). row (r .rank) (r .count)))
 

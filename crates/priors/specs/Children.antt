@@ -11,7 +11,7 @@ use lib.ListN.{length, take}
 use Rattle.priors.specs.Limits.{maxChain}
 use Rattle.priors.specs.Reading.{Reading, refused, nothing, answered, unless}
 use Rattle.priors.specs.Rows.{Row, countOf}
-use Rattle.priors.specs.Priors.{LentPriors, lentPriors, layerOf, Counts, records, findRecord, chainOf, childrenOf, priorOf, priorsRefusal}
+use Rattle.priors.specs.Priors.{LentPriors, lentPriors, layerOf, Counts, records, findRecord, childrenOf, priorOf, priorsRefusal}
 use Rattle.priors.specs.declared.records.Record.{Record}
 
 -- how many records of a chain are below the address wanted
@@ -55,12 +55,16 @@ abbrev pub ReadsAtMost : Type 0
 ReadsAtMost =
     (p : LentPriors) (rank wanted : ℕ) (l : ChildLook) → childAsked p rank wanted ≡ answered l → l .read ≤ maxChain
 
--- nothing past the records read decides: where two tables of child records pass 3 to 7 and 22, and the chains of the node have the same records as far as the
--- first is read, the child wanted has the same count and the same number read in both
+-- a chain has the addresses and counts of another as far as that one is read, and ends where that one does if all of that are below the address wanted
+abbrev pub SameAsRead : (wanted : ℕ) → List Row → List Row → Type 0
+SameAsRead wanted read other = (take (readsOf wanted read) read ≡ take (readsOf wanted read) other) × (belowIn wanted read ≡ length read → length other ≡ length read)
+
+-- nothing past the records read decides: where two tables of child records pass 3 to 7 and 22, and the chain of the node in the second is that in the first as far
+-- as this is read, the child wanted has the same count and the same number read in both
 abbrev pub NothingPast : Type 0
 NothingPast =
     (nodes children others : List ℕ) (floor : ℤ) (rank wanted : ℕ)
     → priorsRefusal nodes children (layerOf floor) ≡ 0
     → priorsRefusal nodes others (layerOf floor) ≡ 0
-    → ((node : Record) → findRecord (layerOf floor) rank (records nodes) ≡ some node → let n = readsOf wanted (childrenOf children (node .link)) in take n (chainOf children (node .link)) ≡ take n (chainOf others (node .link)))
+    → ((node : Record) → findRecord (layerOf floor) rank (records nodes) ≡ some node → SameAsRead wanted (childrenOf children (node .link)) (childrenOf others (node .link)))
     → childAsked (lentPriors nodes children floor) rank wanted ≡ childAsked (lentPriors nodes others floor) rank wanted

@@ -1,13 +1,10 @@
 use mathlib.Core.Path.{_≡_, sym, ap, _∙_}
 use native.Mathlib.Omega.{arith}
 use Prim.Native.Nat.{ℕ, _-_, _<_}
-use Rattle.priors.specs.declared.records.Record.{Record}
-use mathlib.Core.List.{List, map}
-use Rattle.priors.specs.Rows.{row}
 use borrow.Author.Tests.{lt-ltb, le-ltb, ltb-true}
 use Rattle.priors.specs.Priors.{recordAt, recordCount, childrenOf, countSum, priorOfNode, total, countFits}
 use Rattle.priors.proofs.BelowLaws.{all-at}
-use Rattle.priors.proofs.ChainLaws.{chain-end, chain-counts}
+use Rattle.priors.proofs.ChainLaws.{rows-end, chain-counts}
 use Rattle.priors.proofs.checks.total_fits.Statement.{statement}
 use Rattle.priors.proofs.checks.total_fits.Tie as tie
 
@@ -31,7 +28,7 @@ unfolding total countSum
 returns-3 c =
     let children = c .before .before .before .before .args .children .now in
     let node = c .before .before .before .before .args .node in
-    let ended : countSum (childrenOf children (node .link)) ≡ 0 = ap (λ (k : ℕ). countSum (childrenOf children k)) (c .if2 .left) ∙ ap (λ (l : List Record). countSum (map (λ (r : Record). row (r .rank) (r .count)) l)) (chain-end children (c .before .before .before .before .pre .1 .0)) in
+    let ended : countSum (childrenOf children (node .link)) ≡ 0 = ap (λ (k : ℕ). countSum (childrenOf children k)) (c .if2 .left) ∙ ap countSum (rows-end children (c .before .before .before .before .pre .1 .0)) in
     sym (le-ltb 0 (total (priorOfNode children node)) (omega arith))
 
 pub total-fits-spec : {M : Type 1} → statement M

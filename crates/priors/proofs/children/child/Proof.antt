@@ -7,12 +7,10 @@ use mir.Syntax.{w32}
 use mir.ValLaws.{toZ-ofZ}
 use Rattle.priors.specs.Address.{rankOf}
 use Rattle.priors.specs.Reading.{answered}
-use Rattle.priors.specs.Children.{lookIn}
 use Rattle.priors.specs.Refusals.{numberOf, checkedNumber}
 use Rattle.priors.specs.Lookups.{nodeFound}
-use Rattle.priors.specs.Priors.{records, findRecord, priorOf, priorsRefusal, layerOf}
-use Rattle.priors.proofs.RuleLaws.{priors-unnamed, unless-refused}
-use Rattle.priors.proofs.ReadLaws.{told-in, told-without}
+use Rattle.priors.specs.Priors.{lentPriors, records, findRecord, priorsRefusal, layerOf}
+use Rattle.priors.proofs.ReadLaws.{told-refused, told-in, told-without}
 use Rattle.priors.proofs.PriorLaws.{accepted, found-fits}
 use borrow.Author.Needs.{needs}
 use Rattle.priors.proofs.children.child.Statement.{statement}
@@ -67,7 +65,7 @@ returns c =
     let r = c .before .r .given .0 .0 in
     let layer : c .before .before .before .before .layer-of .result ≡ layerOf (start .args .floor) = c .before .before .before .before .layer-of .ensures ∙ ap layerOf (toZ-ofZ w32 (start .args .floor) (start .fits .floor)) in
     let is : numberOf r ≡ priorsRefusal nodes children (layerOf (start .args .floor)) = sym (ap checkedNumber (c .before .r .given .1)) ∙ c .before .before .before .check-priors .ensures ∙ ap (priorsRefusal nodes children) layer in
-    unless-refused r (priorsRefusal nodes children (layerOf (start .args .floor))) (answered (lookIn (rankOf (start .args .child-scale) (start .args .child-point)) (priorOf nodes children (layerOf (start .args .floor)) (rankOf (start .args .scale) (start .args .point))))) is (priors-unnamed nodes children (layerOf (start .args .floor)))
+    told-refused (lentPriors nodes children (start .args .floor)) (rankOf (start .args .scale) (start .args .point)) (rankOf (start .args .child-scale) (start .args .child-point)) r is
 
 returns-2 : tie.Need-returns-2
 returns-2 c =
@@ -83,7 +81,7 @@ returns-2 c =
     let child : c .before .rank-of2 .result ≡ wanted = c .before .rank-of2 .ensures ∙ ap (λ (z : ℤ). rankOf z (start .args .child-point)) (toZ-ofZ w32 (start .args .child-scale) (start .fits .child-scale)) in
     let found : findRecord (layerOf (start .args .floor)) rank (records nodes) ≡ some node = ap (λ (n : ℕ). findRecord n rank (records nodes)) (sym layer) ∙ ap (λ (n : ℕ). findRecord (c .before .before .before .before .before .before .before .before .before .before .layer-of .result) n (records nodes)) (sym ranked) ∙ sym (c .before .before .before .before .before .find-node .ensures) ∙ ap nodeFound (c .before .before .before .node .given .1) in
     let told = rw child at (c .find-child .ensures) in
-    (λ i. answered (record { count = told .0 i; read = told .1 i })) ∙ sym (told-in nodes children (layerOf (start .args .floor)) rank wanted passed node found)
+    (λ i. answered (record { count = told .0 i; read = told .1 i })) ∙ sym (told-in (lentPriors nodes children (start .args .floor)) rank wanted passed node found)
 
 returns-3 : tie.Need-returns-3
 returns-3 c =
@@ -96,7 +94,7 @@ returns-3 c =
     let passed : priorsRefusal nodes children (layerOf (start .args .floor)) ≡ 0 = ap (priorsRefusal nodes children) (sym layer) ∙ sym (c .before .before .before .before .before .before .check-priors .ensures) ∙ ap checkedNumber (c .before .before .before .before .enum-told .given .1) in
     let ranked : c .before .before .before .rank-of .result ≡ rank = c .before .before .before .rank-of .ensures ∙ ap (λ (z : ℤ). rankOf z (start .args .point)) (toZ-ofZ w32 (start .args .scale) (start .fits .scale)) in
     let missing : findRecord (layerOf (start .args .floor)) rank (records nodes) ≡ none = ap (λ (n : ℕ). findRecord n rank (records nodes)) (sym layer) ∙ ap (λ (n : ℕ). findRecord (c .before .before .before .before .before .before .before .layer-of .result) n (records nodes)) (sym ranked) ∙ sym (c .before .before .find-node .ensures) ∙ ap nodeFound (c .enum-told2 .given .1) in
-    sym (told-without nodes children (layerOf (start .args .floor)) rank wanted passed missing)
+    sym (told-without (lentPriors nodes children (start .args .floor)) rank wanted passed missing)
 
 pub child-spec : {M : Type 1} → statement M
 child-spec =

@@ -6,12 +6,12 @@ use native.Mathlib.Omega.{arith}
 use Prim.Native.Nat.{ℕ, _+_, _-_, _*_, _^_, _≤_, _<_}
 use lib.ListN.{length}
 use Rattle.priors.specs.declared.records.Record.{Record}
-use mathlib.Core.List.{[], map}
+use mathlib.Core.List.{[]}
 use mathlib.Core.Option.{some}
-use Rattle.priors.specs.Rows.{row, look}
+use Rattle.priors.specs.Rows.{look}
 use Rattle.priors.specs.Priors.{recordAt, recordCount, chainOf, childrenOf}
 use Rattle.priors.proofs.Ranks.{word-lt}
-use Rattle.priors.proofs.ChainLaws.{next-link, next-small, chain-end, chain-length}
+use Rattle.priors.proofs.ChainLaws.{next-link, next-small, rows-end, chain-length}
 use Rattle.priors.proofs.Exactly.{chain-exact}
 use Rattle.priors.proofs.ReadLaws.{walked, chain-reads, walk-past, walk-found, walk-on}
 use borrow.Author.Needs.{needs}
@@ -103,7 +103,7 @@ returns-3 c =
     let start = c .before .before .before in
     let children = start .args .children .now in
     let rank = start .args .rank in
-    let end : childrenOf children (loop .link) ≡ [] = ap (λ (k : ℕ). childrenOf children k) (c .loop-test .left) ∙ ap (map (λ (r : Record). row (r .rank) (r .count))) (chain-end children (start .pre .1 .0)) in (
+    let end : childrenOf children (loop .link) ≡ [] = ap (λ (k : ℕ). childrenOf children k) (c .loop-test .left) ∙ rows-end children (start .pre .1 .0) in (
       sym (sym (chain-exact children (start .args .first) rank (start .pre .1 .1)) ∙ loop .inv .1 .0 ∙ ap (look rank) end),
       omega (arith, chain-reads children (start .args .first) rank (start .pre .1 .1), loop .inv .1 .1 .0, ap (walked rank) end),
     )

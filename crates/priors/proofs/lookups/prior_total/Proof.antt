@@ -4,10 +4,8 @@ use Prim.Native.Nat.{ℕ, _+_, _-_, _*_, _≤_}
 use lib.ListN.{length}
 use Rattle.priors.specs.declared.records.Record.{Record}
 use Prim.Native.Nat.{_^_}
-use mathlib.Core.List.{List, map}
-use Rattle.priors.specs.Rows.{row}
 use Rattle.priors.specs.Priors.{recordAt, recordCount, chainOf, childrenOf, countSum, total}
-use Rattle.priors.proofs.ChainLaws.{next-small, chain-end, chain-step, chain-length}
+use Rattle.priors.proofs.ChainLaws.{next-small, rows-end, rows-step, chain-length}
 use borrow.Author.Needs.{needs}
 use Rattle.priors.proofs.lookups.prior_total.Statement.{statement}
 use Rattle.priors.proofs.lookups.prior_total.Tie as tie
@@ -57,14 +55,14 @@ loop-again c =
     let sum = c .before .before .before .before .loop .sum in
     let here = recordAt children (link - 1) in
     let is : c .before .before .record-at .result ≡ here = c .before .before .record-at .ensures in
-    let on : countSum (childrenOf children link) ≡ here .count + countSum (childrenOf children (here .link)) = ap (λ (l : List Record). countSum (map (λ (r : Record). row (r .rank) (r .count)) l)) (chain-step children (c .before .before .before .before .before .before .before .before .pre .1 .0) link (omega arith) (omega arith)) in
+    let on : countSum (childrenOf children link) ≡ here .count + countSum (childrenOf children (here .link)) = ap countSum (rows-step children (c .before .before .before .before .before .before .before .before .pre .1 .0) link (omega arith) (omega arith)) in
     rw is (next-small children (c .before .before .before .before .before .before .before .before .pre .1 .0) (link - 1) (omega arith), omega arith, omega (arith, c .before .struct-known3 .given, ap (λ (r : Record). r .count) is, chain-length children (c .before .before .before .before .before .before .before .before .pre .1 .0) link (omega arith) (omega arith)))
 
 returns : tie.Need-returns Inv-loop μ-loop
 unfolding total countSum
 returns c =
     let children = c .before .before .before .before .before .args .children .now in
-    let ended : countSum (childrenOf children (c .before .loop .link)) ≡ 0 = ap (λ (k : ℕ). countSum (childrenOf children k)) (c .loop-test .left) ∙ ap (λ (l : List Record). countSum (map (λ (r : Record). row (r .rank) (r .count)) l)) (chain-end children (c .before .before .before .before .before .pre .1 .0)) in
+    let ended : countSum (childrenOf children (c .before .loop .link)) ≡ 0 = ap (λ (k : ℕ). countSum (childrenOf children k)) (c .loop-test .left) ∙ ap countSum (rows-end children (c .before .before .before .before .before .pre .1 .0)) in
     omega arith
 
 pub prior-total-spec : {M : Type 1} → statement M
