@@ -1,7 +1,8 @@
 //! Both sides of a row must have the same figures, or its times compare nothing.
 
+use crate::load::Prior;
 use crate::sides::goko_address;
-use oracle::{Goko, NodeAddress};
+use oracle::{Goko, NodeAddress, Panic};
 use recount::{same_figure, same_figures};
 use std::collections::BTreeMap;
 use teakpool::{Address, KLDivergenceStats, Output, ProbVector, ENTRY_BYTES};
@@ -51,6 +52,14 @@ pub fn figure(ours: Option<f64>, theirs: Option<f64>) {
     let same = |(ours, theirs): (f64, f64)| same_figure(ours, theirs);
     assert!(ours.is_some() == theirs.is_some(), "both have a divergence or none");
     assert!(ours.zip(theirs).is_none_or(same), "both have the same divergence");
+}
+
+/// A child's count in a prior is that of goko's `ln_pdf`, which tells ln of its share.
+pub fn share(count: Option<u32>, (_, singleton, children): &Prior, theirs: Result<Option<f64>, Panic>) {
+    let total = singleton + children.iter().map(|(_, count)| count).sum::<u32>();
+    let ours = f64::from(count.unwrap_or(0)).ln() - f64::from(total).ln();
+    let theirs = theirs.expect("goko answers").expect("the node has a prior");
+    assert!(same_figure(ours, theirs), "both have the same share");
 }
 
 /// A probability vector is goko's.

@@ -104,6 +104,12 @@ impl Load {
         paths
     }
 
+    /// The prior of a node.
+    pub fn prior(&self, node: Address) -> &Prior {
+        let at = self.priors.binary_search_by_key(&node, |(address, ..)| *address);
+        &self.priors[at.expect("every node has a prior")]
+    }
+
     /// Some node.
     pub fn node(&mut self) -> Address {
         (self.address)(self.rng.below(NODES))

@@ -58,6 +58,7 @@ pub fn print(rounds: usize) {
     formed_adds("add_path, without it", MOST_ENTRIES, &mut load, rounds);
     formed_adds("the same, no entry free", ENTRIES, &mut load, rounds);
     one_node(&mut load, &ours, &theirs, rounds);
+    one_child(&mut load, &theirs, rounds);
     all_nodes(&load, &ours, &theirs, rounds);
     trainings(&mut load, rounds.div_ceil(3));
 }
@@ -122,6 +123,32 @@ fn one_node(load: &mut Load, ours: &Tracker, theirs: &Goko, rounds: usize) {
         each(&mut |node| let_go(black_box(ours.posterior_kl_divergence(tables, priors, node))), &|node| {
             let_go(black_box(theirs.posterior_kl_divergence(node)))
         })
+    });
+}
+
+/// The look-up of a child in its node's prior: in turn of one that is there, and of any node.
+fn one_child(load: &mut Load, theirs: &Goko, rounds: usize) {
+    let mut step = |index: usize| {
+        let path = load.path();
+        (path[0], if index % 2 == 0 { path[1] } else { load.node() })
+    };
+    let asked: Vec<(Address, Address)> = (0..READINGS).map(&mut step).collect();
+    let priors = load.records.lent();
+    for (node, child) in &asked {
+        let prior = load.prior(*node);
+        let count = priors.child(*node, *child).expect("it is answered").count;
+        agree::share(count, prior, theirs.ln_pdf(goko_address(*node), goko_address(*child)));
+    }
+    row("child", rounds, || {
+        let one = timed(READINGS, || {
+            asked.iter().for_each(|(node, child)| let_go(black_box(priors.child(*node, *child))))
+        });
+        let other = timed(READINGS, || {
+            asked.iter().for_each(|(node, child)| {
+                let_go(black_box(theirs.ln_pdf(goko_address(*node), goko_address(*child))))
+            })
+        });
+        (one, other)
     });
 }
 
