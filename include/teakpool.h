@@ -12,9 +12,9 @@
  *
  * What every function but teakpool_version returns
  *   TEAKPOOL_DONE (0)    the call is carried out and its answer is written;
- *   TEAKPOOL_NONE (100)  there is no answer, goko's None: the node asked for has no prior, is not listed, is listed with a total of 0,
- *                        or has a prior without the child asked for. Each function that can return it says when. Nothing is
- *                        written, but that teakpool_child tells how many records it read;
+ *   TEAKPOOL_NONE (100)  there is no answer: the node asked for has no prior, is not listed or is listed with a total of 0, which is
+ *                        goko's None, or its prior does not have the child asked for, which goko counts as 0. Each function that can
+ *                        return it says when. Nothing is written, but that teakpool_child tells how many records it read;
  *   1 to 18, 22          the call is refused, by the numbers of `enum teakpool_refusal`. Nothing is written, but 14 and 15 write
  *                        node_scale and node_point where the call has them, and a training that 10, 12, 14 or 15 stops leaves its
  *                        book, knots and values all zero to their ends.
@@ -196,7 +196,8 @@ uint32_t teakpool_check_priors(const uint8_t *nodes, size_t nodes_length, const 
  *   equal to the record at place p, from 0   p + 1
  *   between the places p - 1 and p           p + 1
  *   past the last of n records               n
- * So read is at most 64. The node's record, and what the tests of the priors read, do not count.
+ * So read is at most 64. The node's record, and what the tests of the priors read, do not count; as in every call that is lent priors
+ * these tests go over all records first, whatever is asked.
  * None if the node has no prior, or its prior does not have the child. Then count is as it was, and read is written all the same; it
  * is 0 if the node has no prior.
  * Limits: those of teakpool_check_priors; node and child may be any two addresses.

@@ -1,5 +1,5 @@
 //! What readings and trainings are lent beside a tracker: tables and priors. Every call tests
-//! them itself; `check` does so alone.
+//! them itself; `check` does so alone. A child's look-up is lent priors alone.
 
 use crate::refusal::{answered, done};
 use crate::{Address, Refusal};

@@ -1,11 +1,12 @@
 //! The drift watch of a steering kit as a safe Rust crate over the proved archive, for x86-64 Linux.
 //! A [`Tracker`] counts the paths that a machine takes through a tree of nodes, in a book and a queue
-//! that it is lent; [`Tables`] and [`Priors`] are lent to readings and trainings; a [`Baseline`] tells
-//! what figures are usual at a sequence length. The rules are in the repository's docs/RULES.md.
+//! that it is lent; [`Tables`] and [`Priors`] are lent to readings and trainings, and a child's count can
+//! be asked for in priors alone; a [`Baseline`] tells what figures are usual at a sequence length. The
+//! rules are in the repository's docs/RULES.md.
 //!
 //! A call that is turned back gives a [`Refusal`] and changes nothing that it was lent, but for a
-//! training that has begun. A reading that has no answer gives `Ok(None)`. Nothing is allocated by a
-//! call, and nothing is kept between calls.
+//! training that has begun. A reading that has no answer gives `Ok(None)`, a look-up of a child that
+//! is not there `Ok` with no count. Nothing is allocated by a call, and nothing is kept between calls.
 //!
 //! Figures are promised by their 64 bits (`f64::to_bits`), any NaN as any NaN; `==` on the answers holds
 //! plus zero and minus zero equal, as Rust does. No reading tells minus zero; [`Baseline::stats`] can.

@@ -50,7 +50,8 @@ pub enum Refusal {
     /// A transition that the prior has never seen is the strongest drift there is. Once it is in the
     /// book, every later `all_node_kl` and `kl_div_stats` is refused until the tracker is opened anew.
     /// So try a path with [`try_path`](crate::try_path) before it is added, report this as a finding,
-    /// and do not add the path.
+    /// and do not add the path; [`Priors::child`](crate::Priors::child), asked for each step that comes
+    /// right after the node, tells which one its prior does not have.
     MissingChild(Address),
     /// 15: U past the last table index; with the node.
     ///
@@ -182,7 +183,7 @@ pub(crate) fn done(answer: u32, node: Address) -> Result<(), Refusal> {
     }
 }
 
-/// A value, goko's `None`, or a refusal.
+/// A value, none, or a refusal.
 pub(crate) fn answered<T>(answer: u32, node: Address, value: T) -> Result<Option<T>, Refusal> {
     match answer {
         archive::raw::NONE => Ok(None),
