@@ -81,6 +81,18 @@
  * The test reads nothing else. In memory altered by others that has the form, an add that takes away from a count of 0 leaves 0 and
  * passes over an entry that is missing.
  *
+ * Visits. A node's evidence total is the counts of its used entries together, its ending's and its children's. From an accepted
+ * opening on, and after any openings, adds and readings, refused ones included, it may be read as the node's visits: how often the
+ * paths of the window come to it, each path that begins at it being one, and each step to it from another or from itself one more.
+ * So a path that meets a node twice visits it twice, and a listed node's total is 0 exactly where no path of the window holds it; one
+ * that is not listed has no visits. All counts of the book together are the steps of the window's paths. These are the last paths
+ * accepted since the last accepted opening, up to its window, or all of them where that is 0: a path that has left the window no
+ * longer counts. examples/c/visits.c reads visits from a book.
+ * The total may not be read so where anything else wrote into state, book or queue, a training that was lent the book included, or
+ * where a call gets them otherwise than the last one left them: the form does not hold counts against the queue, and every count is
+ * taken as it stands. The bytes of all three, saved together and put back together, go on as if nothing had come between; a copy of
+ * struct teakpool_tracker saves the state alone.
+ *
  * How to live with 14 and 15. Both come up in a reading, after the path that brings them was added.
  *   14  The node went on to a child that its prior does not have. A transition never seen in the prior is the strongest drift there
  *       is: its divergence would be infinite. Once the path is in the book, every later teakpool_all_node_kl and
@@ -102,8 +114,8 @@
 /* The version of this header; teakpool_version() tells that of the archive. CHANGELOG.md says what counts as a break. */
 #define TEAKPOOL_VERSION_MAJOR 0u
 #define TEAKPOOL_VERSION_MINOR 3u
-#define TEAKPOOL_VERSION_PATCH 0u
-#define TEAKPOOL_VERSION_STRING "0.3.0"
+#define TEAKPOOL_VERSION_PATCH 1u
+#define TEAKPOOL_VERSION_STRING "0.3.1"
 #define TEAKPOOL_VERSION (1000000u * TEAKPOOL_VERSION_MAJOR + 1000u * TEAKPOOL_VERSION_MINOR + TEAKPOOL_VERSION_PATCH)
 
 /* A call's answer is to be looked at, and none of its pointers is NULL. */

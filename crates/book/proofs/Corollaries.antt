@@ -20,6 +20,7 @@ use Rattle.book.specs.Corollaries.{acceptedSince, windowSince, HasRow, T
 use Rattle.book.proofs.Passes.{found}
 use Rattle.book.proofs.Sums.{length-rows}
 use Rattle.book.proofs.Meaning.{look-ending, look-child, node-listed, child-listed-iff}
+use Rattle.book.proofs.VisitLaws.{all-counts, total-visits, total-none, never-visited}
 use Rattle.book.proofs.Image.{ascends-rows}
 use Rattle.book.proofs.BookImage.{length-image}
 use Rattle.book.proofs.Kept.{Kept}
@@ -94,6 +95,10 @@ told r k = record {
   node-listed = λ a. rw (rows-are r k) (exactly W H (endKey a) (node-listed W H (k .ranks) a));
   ending-count = λ a c e. found-is (total (occurrences a) H) (total (endings a) (windowPart W H)) c (sym (look-ending W H (k .ranks) a) ∙ exact W H (endKey a) ∙ (rw (rows-are r k) at e));
   used-le = omega (arith, length-rows W H (k .whole), length-image W H);
+  visited = λ a. rw (rows-are r k) (total-visits W H (k .ranks) a);
+  unlisted = λ a h. never-visited W H a (λ s. h (rw (rows-are r k) (exactly W H (endKey a) (node-listed W H (k .ranks) a) .1 s)));
+  unvisited = λ a. rw (rows-are r k) (total-none W H (k .ranks) a);
+  all-counts = rw (rows-are r k) (all-counts W H);
 }
   where
     W : ℕ

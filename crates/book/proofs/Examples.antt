@@ -8,11 +8,13 @@ use Rattle.priors.specs.Address.{lift, rank}
 use Rattle.priors.specs.Rows.{row, change}
 use Rattle.book.specs.Keys.{keyOf, endKey, childKey, nodeOf, kindOf, childOf}
 use Rattle.book.specs.Entries.{keyAt, rowAt, rows, rowBytes, bytesOf}
-use Rattle.book.specs.Path.{stepsOf, wholePath, listedKeys, countedKeys}
+use Rattle.book.specs.Path.{Steps, stepsOf, wholePath, listedKeys, countedKeys}
 use Rattle.book.specs.Form.{bookFits, queueFits, plain, follows, formedAfter, formed, lengthsFit, stateFits, inForm}
 use Rattle.book.specs.Changes.{changeAll, addRows}
 use Rattle.book.specs.Calls.{BookAnswer, fresh, openNumber, openState, openBook, openQueue, leaving, addNumber, rowsAfter, addState, stateAfter, addBook, bookAfter, placeBytes, queueWith, addQueue}
-use Rattle.book.specs.Recount.{enter, enterAll, listing}
+use Rattle.book.specs.Recount.{windowPart, enter, enterAll, listing}
+use Rattle.book.specs.Figures.{total}
+use Rattle.book.specs.Visits.{arrivals, beginnings, visits, evidenceTotal}
 use Rattle.book.specs.Claims.{BookCall, opening, add, runs, Machine, bookStep, recountStep, openRefusal, addRefusal, restarted}
 use Rattle.book.specs.Corollaries.{entriesOf}
 
@@ -54,3 +56,24 @@ book-numbers = refl
 entries-left : entriesOf (runs bookStep before calls .1) ≡ row (endKey (rank 0 9)) 0 ∷ row (endKey (rank 1 7)) 1 ∷ row (childKey (rank 1 7) (rank 0 9)) 0 ∷ []
 unfolding before runs bookStep openNumber openState openBook openQueue addNumber addState stateAfter addBook bookAfter addQueue rowsAfter leaving queueWith placeBytes inForm stateFits queueFits bookFits formed formedAfter follows plain lengthsFit rows rowAt keyAt bytesOf rowBytes nodeOf kindOf childOf store wholePath changeAll change addRows listedKeys countedKeys stepsOf word rank lift endKey childKey keyOf
 entries-left = refl
+
+-- the paths that were taken: with a window of 1 the last one counts, where (1,7) begins; with a window of 0 both do
+abbrev taken : List Steps
+taken = (rank 1 7 ∷ rank 0 9 ∷ []) ∷ (rank 1 7 ∷ []) ∷ []
+
+visits-left : map (visits 1 taken) (rank 1 7 ∷ rank 0 9 ∷ []) ≡ 1 ∷ 0 ∷ []
+unfolding visits arrivals beginnings total windowPart rank lift
+visits-left = refl
+
+visits-all : map (visits 0 taken) (rank 1 7 ∷ rank 0 9 ∷ []) ≡ 2 ∷ 1 ∷ []
+unfolding visits arrivals beginnings total windowPart rank lift
+visits-all = refl
+
+-- a node that is come to again is visited again, from itself too
+visits-again : visits 0 ((1 ∷ 1 ∷ 2 ∷ 1 ∷ []) ∷ []) 1 ≡ 3
+unfolding visits arrivals beginnings total windowPart
+visits-again = refl
+
+totals-left : map (λ a. evidenceTotal a (entriesOf (runs bookStep before calls .1))) (rank 1 7 ∷ rank 0 9 ∷ []) ≡ 1 ∷ 0 ∷ []
+unfolding evidenceTotal nodeOf endKey childKey keyOf rank lift
+totals-left = rw entries-left

@@ -10,6 +10,7 @@ pub mod Sums
 pub mod Meaning
 pub mod Membership
 pub mod ListingForm
+pub mod VisitLaws
 -- what code needs besides, one pass over a path and the number of rows that would come in:
 pub mod OnePass
 pub mod Loops

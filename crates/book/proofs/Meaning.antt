@@ -120,7 +120,7 @@ module _ (W : ℕ) (H : List Steps) (ranks : AllRanks H) (a : ℕ) where
 
 -- ---- listed if, and only if, some path of H has it
 
-somewhere : (f : Steps → ℕ) (H : List Steps) → 0 < total f H → Somewhere f H
+pub somewhere : (f : Steps → ℕ) (H : List Steps) → 0 < total f H → Somewhere f H
 unfolding total
 somewhere f [] h = absurd (omega arith)
 somewhere f (p ∷ H) h = go (f p) refl (somewhere f H)
@@ -129,7 +129,7 @@ somewhere f (p ∷ H) h = go (f p) refl (somewhere f H)
     go zero e ih = let s = ih (omega arith) in (s .0, List·Memᴰ·tail (s .1), s .2)
     go (suc n) e ih = (p, List·Memᴰ·head refl, omega arith)
 
-total-above : (f : Steps → ℕ) (H : List Steps) (p : Steps) → List·Memᴰ p H → f p ≤ total f H
+pub total-above : (f : Steps → ℕ) (H : List Steps) (p : Steps) → List·Memᴰ p H → f p ≤ total f H
 unfolding total
 total-above f [] p m = absurd (List·Memᴰ·not-nil m)
 total-above f (q ∷ H) p m = go (List·Memᴰ·cases-cons m) (total-above f H p)

@@ -22,10 +22,10 @@ length-counted [] = refl
 length-counted (a ∷ []) = refl
 length-counted (a ∷ b ∷ p) = ap suc (length-counted (b ∷ p))
 
-length-all : (f : Steps → List ℕ) (H : List Steps) → length (flatMap f H) ≡ total (λ p. length (f p)) H
+pub counted-steps : (H : List Steps) → length (flatMap countedKeys H) ≡ total length H
 unfolding flatMap total
-length-all f [] = refl
-length-all f (p ∷ H) = length-append (f p) (flatMap f H) ∙ ap (λ (n : ℕ). length (f p) + n) (length-all f H)
+counted-steps [] = refl
+counted-steps (p ∷ H) = omega (arith, length-append (countedKeys p) (flatMap countedKeys H), length-counted p, counted-steps H)
 
 -- ---- how many rows: at most two for each step, less one for each path
 
@@ -71,20 +71,19 @@ unfolding total
 total-whole [] h = omega arith
 total-whole (p ∷ H) h = omega (arith, total-whole H (h .1))
 
-total-drop : (n : ℕ) (H : List Steps) → total length (drop n H) ≤ total length H
-unfolding total
-total-drop zero H = omega arith
-total-drop (suc n) [] = omega arith
-total-drop (suc n) (p ∷ H) = omega (arith, total-drop n H)
+-- a figure of the window part is not above that of H
+module _ (f : Steps → ℕ) where
+  total-drop : (n : ℕ) (H : List Steps) → total f (drop n H) ≤ total f H
+  unfolding total
+  total-drop zero H = omega arith
+  total-drop (suc n) [] = omega arith
+  total-drop (suc n) (p ∷ H) = omega (arith, total-drop n H)
 
-total-window : (W : ℕ) (H : List Steps) → total length (windowPart W H) ≤ total length H
-unfolding windowPart
-total-window zero H = omega arith
-total-window (suc w) H = total-drop (length H - suc w) H
+  pub total-window : (W : ℕ) (H : List Steps) → total f (windowPart W H) ≤ total f H
+  unfolding windowPart
+  total-window zero H = omega arith
+  total-window (suc w) H = total-drop (length H - suc w) H
 
 pub counted-small : (W : ℕ) (H : List Steps) (k : ℕ) → AllWhole H → counted W H k ≤ 64 * length H
 unfolding counted
-counted-small W H k h =
-    let n : length (flatMap countedKeys (windowPart W H)) ≡ total (λ p. length (countedKeys p)) (windowPart W H) = length-all countedKeys (windowPart W H) in
-    let steps : total (λ p. length (countedKeys p)) (windowPart W H) ≡ total length (windowPart W H) = simp length-counted in
-    omega (arith, occ-length k (flatMap countedKeys (windowPart W H)), total-window W H, total-whole H h)
+counted-small W H k h = omega (arith, occ-length k (flatMap countedKeys (windowPart W H)), counted-steps (windowPart W H), total-window length W H, total-whole H h)

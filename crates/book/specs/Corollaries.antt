@@ -1,5 +1,6 @@
 -- What the claim comes to without the recount (`Corollary` of divergence): H and W are read off the calls and the numbers that they were answered, as the paths
--- accepted since the last accepted opening and that opening's window; the book then tells which transitions and nodes stand in H, and how often in the window part.
+-- accepted since the last accepted opening and that opening's window; the book then tells which transitions and nodes stand in H, and how often in the window part, and
+-- what goes in comes out: a node's counts are its visits.
 -- Then what single calls leave, and what the form reads. Assumes nothing.
 use Prim.Native.Nat.{ℕ, suc, _+_, _*_, _^_, _<_, _≤_}
 use mathlib.Core.Path.{_≡_}
@@ -9,6 +10,7 @@ use mathlib.Core.Option.{some}
 use lib.ListN.{length, take}
 use Rattle.priors.specs.Word.{word}
 use Rattle.priors.specs.Rows.{Row, countOf}
+use Rattle.priors.specs.Priors.{countSum}
 use Rattle.book.specs.declared.trackers.Tracker.{Tracker}
 use Rattle.book.specs.Limits.{entrySize, placeSize}
 use Rattle.book.specs.Keys.{endKey, childKey}
@@ -18,6 +20,7 @@ use Rattle.book.specs.Form.{filled, inForm}
 use Rattle.book.specs.Calls.{BookAnswer, zeros, unlessRefused, fresh, openNumber, openBook, openQueue, addNumber}
 use Rattle.book.specs.Recount.{occurrences, windowPart}
 use Rattle.book.specs.Figures.{total, transitions, endings, Somewhere}
+use Rattle.book.specs.Visits.{visits, evidenceTotal}
 use Rattle.book.specs.Claims.{BookCall, opening, add, Machine, bookStep}
 
 -- ---- what was accepted, told from calls and answers
@@ -57,6 +60,14 @@ pub record Told (m : Machine) (W : ℕ) (H : List Steps) : Type 0 where
   pub ending-count : (node c : ℕ) → countOf (endKey node) (entriesOf m) ≡ some c → c ≡ total (endings node) (windowPart W H)
   -- of the paths of H, p in number and of s steps in all, at most 2s - p entries are used
   pub used-le : m .state .used + length H ≤ 2 * total length H
+  -- a node's evidence total is its visits, listed or not
+  pub visited : (node : ℕ) → evidenceTotal node (entriesOf m) ≡ visits W H node
+  -- one that is not listed has none
+  pub unlisted : (node : ℕ) → (HasRow (endKey node) (entriesOf m) → ⊥) → visits W H node ≡ 0
+  -- it is 0 exactly where no path of the window part holds the node
+  pub unvisited : (node : ℕ) → (evidenceTotal node (entriesOf m) ≡ 0) ↔ (Somewhere (occurrences node) (windowPart W H) → ⊥)
+  -- all counts together are the steps of the window part
+  pub all-counts : countSum (entriesOf m) ≡ total length (windowPart W H)
 
 -- ---- single calls, whatever there was before
 

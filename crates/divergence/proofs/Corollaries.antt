@@ -5,15 +5,17 @@ use Prim.Native.Nat.{ℕ}
 use mathlib.Core.List.{List, [], _∷_, _++_}
 use Rattle.book.specs.Path.{Steps}
 use Rattle.book.specs.Calls.{BookAnswer}
-use Rattle.book.specs.Claims.{BookCall, opening, add, Machine, bookStep, Recount, restarted, recountStep, runs}
+use Rattle.book.specs.Claims.{BookCall, opening, add, Machine, bookStep, Recount, restarted, recountStep, image, runs}
 use Rattle.book.specs.Corollaries.{acceptedSince, windowSince}
+use Rattle.book.proofs.Kept.{Kept}
 use Rattle.book.proofs.RefusalLaws.{open-number}
 use Rattle.book.proofs.Corollaries.{since-paths, since-window, add-not-nine, told as book-told}
 use Rattle.divergence.specs.Asked.{Seen}
 use Rattle.divergence.specs.Claims.{called, ReadingCall, probVector, evidenceProbVector, posteriorKlDivergence, allNodeKl, klDivStats, Call, change, read, Answer, reading, step, recountSeen, recounted}
-use Rattle.divergence.specs.Corollaries.{changesOf, changedAnswers, WithoutReadings, NeverNine, Corollary}
+use Rattle.divergence.specs.Corollaries.{changesOf, changedAnswers, WithoutReadings, NeverNine, TotalsAreVisits, Corollary}
 use Rattle.divergence.proofs.NumberLaws.{reading-not-nine}
-use Rattle.divergence.proofs.Claimed.{read-answer, claim-kept}
+use Rattle.divergence.proofs.VisitedNodes.{evidence-visits, evidence-missing}
+use Rattle.divergence.proofs.Claimed.{nodes-are, read-answer, claim-kept}
 
 -- ---- readings leave no trace
 
@@ -54,6 +56,11 @@ never-nine r (read c ∷ cs) = (reading-not-nine (r .window) (r .paths) c, never
 
 -- ---- what book and readings tell
 
+totals : (r : Recount) → Kept r → TotalsAreVisits (image r) (r .window) (r .paths)
+totals r k a =
+    let listed = book-told r k .node-listed a in
+    (λ h. rw (nodes-are r k) (evidence-visits (r .window) (r .paths) (k .ranks) a (listed .0 h)), λ h. rw (nodes-are r k) (evidence-missing (r .window) (r .paths) (k .ranks) a (λ s. h (listed .1 s))))
+
 pub corollary : Corollary
 unfolding recounted
 corollary m first openings w book queue e cs bytes =
@@ -66,6 +73,7 @@ corollary m first openings w book queue e cs bytes =
     let W-is : windowSince 0 (changesOf all) (changedAnswers (runs step m all .0)) ≡ last .window = ap (windowSince 0 (changesOf all)) answers ∙ sym (since-window none (changesOf all)) ∙ ap (λ (r : Recount). r .window) (sym (plain .1)) in
     let H-is : acceptedSince [] (changesOf all) (changedAnswers (runs step m all .0)) ≡ last .paths = ap (acceptedSince [] (changesOf all)) answers ∙ sym (since-paths none (changesOf all)) ∙ ap (λ (r : Recount). r .paths) (sym (plain .1)) in (
       rw (alike .1, W-is, H-is) (book-told last (alike .2)),
+      rw (alike .1, W-is, H-is) (totals last (alike .2)),
       λ c. ap (λ (n : Machine). step n (read c) .0) (alike .1) ∙ read-answer last (alike .2) c ∙ known last c _ _ W-is H-is,
       rw (alike .0) (never-nine none all),
     )

@@ -17,9 +17,11 @@ pub mod ListedLaws
 pub mod CheckLaws
 pub mod FillLaws
 pub mod VectorLaws
--- The recount's nodes: the listing node by node (`AscentLaws`), and that they are what the rows are read as (`RecountNodeLaws`).
+-- The recount's nodes: the listing node by node (`AscentLaws`), that they are what the rows are read as (`RecountNodeLaws`), and that their totals are visits
+-- (`VisitedNodes`).
 pub mod AscentLaws
 pub mod RecountNodeLaws
+pub mod VisitedNodes
 -- the claim over lists of calls, and what follows from it:
 pub mod Claimed
 pub mod NumberLaws

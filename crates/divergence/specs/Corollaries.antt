@@ -1,17 +1,22 @@
 -- What the claim comes to without the recount: H and W are read off the openings and adds and their answers; the book tells what stands in H and how often in the
--- window part, and a reading answers by W, H and what it is lent; readings leave no trace; 9 never comes from the list's own tracker. And from the definitions alone:
--- no reading reads index 0 of a table. Assumes nothing.
+-- window part, a reading answers by W, H and what it is lent, and the evidence total of a node is its visits; readings leave no trace; 9 never comes from the list's own
+-- tracker. And from the definitions alone: no reading reads index 0 of a table. Assumes nothing.
 use Prim.Native.Nat.{ℕ}
 use mathlib.Core.Path.{_≡_}
 use mathlib.Core.List.{List, [], _∷_, _++_}
+use mathlib.Core.Option.{none, some, Option·map}
 use lib.Ieee.{Float}
 use Rattle.priors.specs.Tables.{lentTables}
-use Rattle.priors.specs.Priors.{LentPriors}
+use Rattle.priors.specs.Priors.{LentPriors, total}
+use Rattle.book.specs.Keys.{endKey}
+use Rattle.book.specs.Path.{Steps}
 use Rattle.book.specs.Calls.{BookAnswer, openNumber}
 use Rattle.book.specs.Figures.{All}
+use Rattle.book.specs.Visits.{visits}
 use Rattle.book.specs.Claims.{BookCall, opening, add, Machine, bookStep, runs}
-use Rattle.book.specs.Corollaries.{acceptedSince, windowSince, Told}
-use Rattle.divergence.specs.Readings.{Reading, refused, nothing, answered}
+use Rattle.book.specs.Corollaries.{acceptedSince, windowSince, entriesOf, HasRow, Told}
+use Rattle.divergence.specs.Nodes.{evidenceOf}
+use Rattle.divergence.specs.Readings.{Reading, refused, nothing, answered, nodesOf}
 use Rattle.divergence.specs.Asked.{Seen, Output, klAsked, allAsked, statsAsked}
 use Rattle.divergence.specs.Claims.{ReadingCall, Call, change, read, Answer, changed, told, reading, step, recountSeen, IsOpening, InBytes}
 
@@ -60,8 +65,15 @@ NeverNine (read call ∷ calls) (answer ∷ answers) = (answerNumber answer ≡ 
 
 -- ---- what book and readings tell
 
--- whatever there was before: after any openings, one that is accepted and any calls, the book tells what the paths accepted since the last accepted opening hold, and a
--- reading answers by these paths and that opening's window
+-- of the evidence that readings go by: a listed node has some, and its total is the node's visits; a node that is not listed has none
+abbrev pub TotalsAreVisits : Machine → ℕ → List Steps → Type 0
+TotalsAreVisits m W H =
+    (node : ℕ)
+    → (HasRow (endKey node) (entriesOf m) → Option·map total (evidenceOf node (nodesOf (m .state) (m .book))) ≡ some (visits W H node))
+    × ((HasRow (endKey node) (entriesOf m) → ⊥) → evidenceOf node (nodesOf (m .state) (m .book)) ≡ none)
+
+-- whatever there was before: after any openings, one that is accepted and any calls, the book tells what the paths accepted since the last accepted opening hold, in
+-- counts that are visits, and a reading answers by these paths and that opening's window
 abbrev pub Corollary : Type 0
 Corollary =
     (m : Machine) (first : List Call) → All IsOpening first
@@ -71,7 +83,7 @@ Corollary =
     let ran = runs step m all in
     let W = windowSince 0 (changesOf all) (changedAnswers (ran .0)) in
     let H = acceptedSince [] (changesOf all) (changedAnswers (ran .0)) in
-    Told (ran .1) W H × ((call : ReadingCall) → step (ran .1) (read call) .0 ≡ reading (recountSeen W H) call) × NeverNine all (ran .0)
+    Told (ran .1) W H × TotalsAreVisits (ran .1) W H × ((call : ReadingCall) → step (ran .1) (read call) .0 ≡ reading (recountSeen W H) call) × NeverNine all (ran .0)
 
 -- ---- index 0 of the tables
 

@@ -7,12 +7,12 @@ const MAJOR: u32 = 0;
 
 const MINOR: u32 = 3;
 
-const PATCH: u32 = 0;
+const PATCH: u32 = 1;
 
-// Version 0.3.0: major times 1,000,000, minor times 1,000 and patch.
+// Version 0.3.1: major times 1,000,000, minor times 1,000 and patch.
 #[no_mangle]
 pub extern "C" fn teakpool_version() -> u32
-    ensures { λ r. ⌜ r ≡ 0 * 1000000 + 3 * 1000 + 0 ⌝ }
+    ensures { λ r. ⌜ r ≡ 0 * 1000000 + 3 * 1000 + 1 ⌝ }
 {
     MAJOR * 1000000 + MINOR * 1000 + PATCH
 }
