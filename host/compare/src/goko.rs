@@ -2,7 +2,7 @@
 //! that goko does not have, or where goko's index of a layer leaves 32 bits, nothing is compared;
 //! where they refuse with 14, 15 or 18, goko must break off, or give none for 14 of a single node.
 
-use crate::{Compared, Tally};
+use crate::{Compared, Tally, Total, Visited};
 use cases::baselines::{StatsAsked, Training};
 use cases::calls::{Call, CallList, Places, PriorBytes};
 use cases::lookups::{Looked, PriorsCase};
@@ -68,10 +68,12 @@ fn equal<T: PartialEq + std::fmt::Debug>(what: &str, ours: T, theirs: T) -> Comp
 pub fn compare_list(list: &CallList, tally: &mut Tally) -> Compared {
     let mut player = Player::new(History::default());
     let mut beside = Beside::default();
+    let mut visited = Visited::default();
     for (index, call) in list.calls.iter().enumerate() {
         let answer = player.play(call);
+        visited.hear(call, &answer);
         beside
-            .hold(call, &answer, &player, tally)
+            .hold(call, &answer, &player, &visited, tally)
             .map_err(|text| format!("call {} of {:#?}\n{}", index, list, text))?;
     }
     Ok(())
@@ -88,12 +90,13 @@ impl Default for Beside {
 
 impl Beside {
     /// Carries out the call and holds `answer` against what goko gives. `played` is the recount
-    /// after the same call.
+    /// after the same call, `visited` has heard it.
     pub fn hold(
         &mut self,
         call: &Call,
         answer: &Answer,
         played: &Player<History>,
+        visited: &Visited,
         tally: &mut Tally,
     ) -> Compared {
         let answered = matches!(answer.refusal(), None | Some(Refusal { number: 14 | 15, .. }));
@@ -102,7 +105,7 @@ impl Beside {
         }
         match answer {
             Answer::Lent => self.lend(played),
-            Answer::Changed(Ok(())) => self.change(call, played, tally)?,
+            Answer::Changed(Ok(())) => self.change(call, played, visited, tally)?,
             Answer::Changed(Err(_)) => tally.not_comparable += 1,
             Answer::Vector(answer, output) => self.vector(call, *answer, output, tally)?,
             Answer::Divergence(answer) => self.divergence(call, *answer, tally)?,
@@ -117,7 +120,13 @@ impl Beside {
         self.0.lend_priors(&goko_priors(&played.priors), played.priors.floor);
     }
 
-    fn change(&mut self, call: &Call, played: &Player<History>, tally: &mut Tally) -> Compared {
+    fn change(
+        &mut self,
+        call: &Call,
+        played: &Player<History>,
+        visited: &Visited,
+        tally: &mut Tally,
+    ) -> Compared {
         tally.changes += 1;
         match call {
             Call::Add { path } => {
@@ -131,7 +140,20 @@ impl Beside {
         }
         let evidence = played.side.evidence().expect("the recount's tracker is in form");
         equal("sequence length", evidence.sequence_len as usize, self.0.sequence_len())?;
-        equal("counts", goko_evidence(&evidence), self.0.evidence())
+        equal("counts", goko_evidence(&evidence), self.0.evidence())?;
+        let totals = self.totals()?;
+        tally.met.goko_visited(&totals);
+        visited.hold_totals(&totals).map_err(|text| format!("goko: {}", text))
+    }
+
+    /// goko's evidence totals, each a whole number.
+    fn totals(&self) -> Result<Vec<Total>, String> {
+        let whole = |((scale, point), total): (NodeAddress, f64)| {
+            let whole = total as u64;
+            equal("total", whole as f64, total)?;
+            Ok((Address::new(scale, point as u32), whole))
+        };
+        self.0.totals().into_iter().map(whole).collect()
     }
 
     fn vector(

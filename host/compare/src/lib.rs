@@ -11,8 +11,10 @@ pub mod goko;
 mod lookups;
 mod met;
 pub mod own;
+mod visited;
 
 pub use met::Met;
+pub use visited::{Total, Visited};
 
 use cases::play::Answer;
 use recount::Refusal;
@@ -43,7 +45,7 @@ pub struct Tally {
     pub altered: u64,
     /// What the recount gave, by refusal number, 0 for an answer.
     pub numbers: BTreeMap<u32, u64>,
-    /// What was met of floors and child look-ups.
+    /// What was met of floors, child look-ups and visits.
     pub met: Met,
 }
 
@@ -116,3 +118,12 @@ impl Tally {
 
 /// Nothing, or what differs.
 pub type Compared = Result<(), String>;
+
+/// Nothing where it holds, else what differs.
+pub fn must(holds: bool, what: impl FnOnce() -> String) -> Compared {
+    if holds {
+        Ok(())
+    } else {
+        Err(what())
+    }
+}

@@ -1,9 +1,9 @@
 //! What the recount must do by itself, goko or not: its two parts agree byte for byte on
 //! every list, a refused call changes nothing that is lent, an answer leaves the places past
-//! it alone, an add on altered memory changes what it may and nothing else, and a child's look-up
-//! tells what a walk along the chain finds and reads.
+//! it alone, after every call the bytes count the visits of each node, an add on altered memory changes
+//! what it may and nothing else, and a child's look-up tells what a walk along the chain finds and reads.
 
-use crate::{Compared, Tally};
+use crate::{Compared, Tally, Visited};
 use cases::altered::AlteredAdd;
 use cases::baselines::Training;
 use cases::calls::{Call, CallList, Places, PriorBytes};
@@ -11,17 +11,13 @@ use cases::lookups::{Looked, PriorsCase};
 use cases::play::{Answer, Bytes, History, Player, Side};
 use recount::limits::{ENTRY_BYTES, MAX_CHAIN, MAX_COUNT, PLACE_BYTES};
 use recount::{
-    check_priors, evidence_prob_vector, is_minus_zero, memory, same_figure, same_figures, stats, Address,
-    ChildLookup, Memory, Output, Refusal, State, Tracker,
+    check_priors, evidence_prob_vector, is_minus_zero, memory, same_figure, same_figures, stats, word,
+    Address, ChildLookup, Memory, Output, Refusal, State, Tracker,
 };
 use std::collections::BTreeSet;
 
 fn must(holds: bool, what: &str) -> Compared {
-    if holds {
-        Ok(())
-    } else {
-        Err(what.to_string())
-    }
+    crate::must(holds, || what.to_string())
 }
 
 /// State, book and queue of a side.
@@ -33,8 +29,9 @@ fn shown(side: &impl Side) -> (State, Vec<u8>, Vec<u8>) {
 pub fn check_list(list: &CallList, tally: &mut Tally) -> Compared {
     let mut history = Player::new(History::default());
     let mut bytes = Player::new(Bytes::filled(list.fill));
+    let mut visited = Visited::default();
     for (index, call) in list.calls.iter().enumerate() {
-        check_call(&mut history, &mut bytes, call, tally)
+        check_call(&mut history, &mut bytes, &mut visited, call, tally)
             .map_err(|text| format!("call {} of {:#?}\n{}", index, list, text))?;
     }
     Ok(())
@@ -43,17 +40,19 @@ pub fn check_list(list: &CallList, tally: &mut Tally) -> Compared {
 fn check_call(
     history: &mut Player<History>,
     bytes: &mut Player<Bytes>,
+    visited: &mut Visited,
     call: &Call,
     tally: &mut Tally,
 ) -> Compared {
     let before = shown(&bytes.side);
     let answer = bytes.play(call);
+    let after = shown(&bytes.side);
     tally.answer(&answer);
     tally.met.reading(call, &answer, &bytes.side, &bytes.priors);
+    visited.hold(call, &answer, (after.0.used, &after.1), &mut tally.met)?;
     let recounted = history.play(call);
     must(recounted.same(&answer), &format!("the history answers {:?}, the bytes {:?}", recounted, answer))?;
     must(!answer.told().into_iter().any(is_minus_zero), "a reading told minus zero")?;
-    let after = shown(&bytes.side);
     match answer {
         Answer::Changed(Ok(())) => {
             must(after == shown(&history.side), "state, book or queue is no image of the history")
@@ -140,14 +139,10 @@ fn check_accepted(add: &AlteredAdd, state: State, book: &[u8], queue: &[u8]) -> 
         let rest = &queue[start + 4 + add.path.len()..start + PLACE_BYTES];
         must(rest.iter().all(|byte| *byte == 0), "the place's zeros")?;
     }
-    let grown = book[..used].chunks(ENTRY_BYTES).any(|entry| count(entry) > MAX_COUNT);
+    let grown = book[..used].chunks(ENTRY_BYTES).any(|entry| word(entry, 5) > MAX_COUNT);
     let after = Memory { state, book, queue };
     must(after.form_holds() != grown, "the form after an add breaks only by a count past 2^30")?;
     must(grown == matches!(after.evidence(), Err(Refusal { number: 9, .. })), "a reading of a broken form")
-}
-
-fn count(entry: &[u8]) -> u32 {
-    u32::from_le_bytes([entry[20], entry[21], entry[22], entry[23]])
 }
 
 /// A training: refused before its work it changes nothing, stopped it leaves zeros.

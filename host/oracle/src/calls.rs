@@ -87,6 +87,12 @@ impl Goko {
         self.tracker.running_evidence().iter().map(listed).collect()
     }
 
+    /// `total` of each node's evidence.
+    pub fn totals(&self) -> Vec<(NodeAddress, f64)> {
+        let evidence = self.tracker.running_evidence();
+        evidence.iter().map(|(node, evidence)| (*node, evidence.total())).collect()
+    }
+
     /// `sequence_len`.
     pub fn sequence_len(&self) -> usize {
         self.tracker.sequence_len()

@@ -32,7 +32,7 @@ impl Address {
 }
 
 /// The field number `index` of `bytes`.
-pub(crate) fn word(bytes: &[u8], index: usize) -> u32 {
+pub fn word(bytes: &[u8], index: usize) -> u32 {
     let field = &bytes[4 * index..4 * index + 4];
     u32::from_le_bytes([field[0], field[1], field[2], field[3]])
 }
@@ -43,6 +43,6 @@ pub fn path_bytes(path: &[Address]) -> Vec<u8> {
 }
 
 /// The steps in lent bytes of whole steps.
-pub(crate) fn steps(bytes: &[u8]) -> Vec<Address> {
+pub fn steps(bytes: &[u8]) -> Vec<Address> {
     bytes.chunks(STEP_BYTES).map(Address::read).collect()
 }

@@ -1,7 +1,7 @@
 //! The rules of docs/RULES.md as plain Rust, with no code of the library. `Recount` keeps W and
 //! H, the list of accepted paths, and works everything out afresh at each call. `memory` carries
 //! out one call on lent bytes, whoever wrote them. Both give the same `Evidence` to the readings,
-//! so the formulas stand once. Refusals carry the rules' numbers.
+//! so the formulas stand once. `visits` are counted from plain paths. Refusals carry the rules' numbers.
 
 mod address;
 mod evidence;
@@ -15,9 +15,10 @@ mod refusal;
 mod stats;
 mod tables;
 mod training;
+mod visits;
 
-pub use address::{path_bytes, Address};
-pub use evidence::{Evidence, NodeEvidence};
+pub use address::{path_bytes, steps, word, Address};
+pub use evidence::{window_part, Evidence, NodeEvidence};
 pub use figures::{is_minus_zero, same_figure, same_figures};
 pub use memory::{add_path, open, Memory};
 pub use priors::{check_priors, child, record_bytes, ChildLookup, LentPriors, Prior, Priors};
@@ -30,6 +31,7 @@ pub use refusal::{refuse, Refusal};
 pub use stats::{stats, KLDivergenceBaselineStats, MeanVariance};
 pub use tables::{check_tables, LentTables};
 pub use training::{train, Baseline, Sequences};
+pub use visits::{step_count, visits};
 
 /// The state beside book and queue.
 #[derive(Debug, Clone, Copy, PartialEq, Eq, Default)]

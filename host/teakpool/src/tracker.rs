@@ -168,7 +168,25 @@ impl<'m> Tracker<'m> {
         self.state
     }
 
-    /// The book.
+    /// The book, whose first `state().used` entries are node, kind, child address and count. The counts
+    /// of a node's entries together, its evidence total, are its visits in the window, as long as nothing
+    /// but the tracker wrote there (docs/RULES.md, section 7, says what else they may not be read as).
+    ///
+    /// ```
+    /// use teakpool::{Address, Refusal, Tracker, ENTRY_BYTES, PLACE_BYTES};
+    ///
+    /// let (mut book, mut queue) = ([0; 4 * ENTRY_BYTES], [0; PLACE_BYTES]);
+    /// let mut tracker = Tracker::open(1, &mut book, &mut queue)?;
+    /// let node = Address::new(1, 7);
+    /// tracker.add_path(&[node])?;
+    /// tracker.add_path(&[node, Address::new(0, 9), node])?;
+    ///
+    /// let entries = tracker.book().chunks_exact(ENTRY_BYTES).take(tracker.state().used as usize);
+    /// let count = |entry: &[u8]| u32::from_le_bytes(entry[20..].try_into().expect("four bytes"));
+    /// let visits: u32 = entries.filter(|entry| entry[..8] == node.bytes()).map(count).sum();
+    /// assert_eq!(visits, 2);
+    /// # Ok::<(), Refusal>(())
+    /// ```
     pub fn book(&self) -> &[u8] {
         self.book
     }

@@ -94,6 +94,11 @@ impl Archive {
         }
     }
 
+    /// The entries used and the book, as they are; none are used where no state was lent yet.
+    pub fn used_and_book(&self) -> (u32, &[u8]) {
+        (self.state.now().get(1).copied().unwrap_or(0), self.book.now())
+    }
+
     /// Whether state, book and queue are these, byte for byte.
     pub fn holds(&self, held: &Held) -> bool {
         let State { window, used, accepted } = held.state;

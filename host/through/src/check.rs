@@ -1,5 +1,6 @@
 //! One case through the archive and on the recount: answers, outputs, state and every byte of
-//! book and queue must be the same, figures bit for bit. The archive's answers go to goko, too.
+//! book and queue must be the same, figures bit for bit, and after every call of a list the book must
+//! count the visits of each node. The archive's answers go to goko, too.
 
 use crate::calls::{Archive, Held, Told};
 use cases::altered::AlteredAdd;
@@ -8,20 +9,12 @@ use cases::calls::{Call, CallList, Places, PriorBytes, Tables};
 use cases::lookups::PriorsCase;
 use cases::play::{same_result, Answer, History, Player, Side};
 use compare::goko::{self, Beside};
-use compare::{Compared, Tally};
+use compare::{must, Compared, Tally, Visited};
 use recount::{
     all_node_kl, check_priors, check_tables, evidence_prob_vector, kl_div_stats, memory,
     posterior_kl_divergence, prob_vector, same_figures, Address,
 };
 use std::fmt::Debug;
-
-fn must(holds: bool, what: impl FnOnce() -> String) -> Compared {
-    if holds {
-        Ok(())
-    } else {
-        Err(what())
-    }
-}
 
 fn differ(what: &str, recount: impl Debug, archive: impl Debug) -> String {
     format!("{}: the recount has {:?}, the archive {:?}", what, recount, archive)
@@ -64,12 +57,16 @@ pub fn list(archive: &mut Archive, list: &CallList, tally: &mut Tally) -> Compar
     tally.lists += 1;
     let mut history = Player::new(History::default());
     let mut beside = Beside::default();
+    let mut visited = Visited::default();
     let mut image: Option<Held> = None;
     archive.lend_tables(&Tables::default());
     archive.lend_priors(&PriorBytes::default());
     for (index, call) in list.calls.iter().enumerate() {
         one_call(archive, call, list.fill, &mut history, &mut image, tally)
-            .and_then(|answer| beside.hold(call, &answer, &history, tally))
+            .and_then(|answer| {
+                visited.hold(call, &answer, archive.used_and_book(), &mut tally.met)?;
+                beside.hold(call, &answer, &history, &visited, tally)
+            })
             .map_err(|text| format!("call {} of {:#?}\n{}", index, list, text))?;
     }
     Ok(())

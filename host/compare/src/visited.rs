@@ -1,0 +1,148 @@
+//! Holds a tracker's counts to the visits of its nodes, after every call from an accepted opening on, and
+//! tells what was met of visits. W and H are kept from the calls and their answers alone; the counts are
+//! read from the tracker's bytes, or are goko's.
+
+use crate::met::Met;
+use crate::{must, Compared};
+use cases::calls::Call;
+use cases::play::Answer;
+use recount::limits::ENTRY_BYTES;
+use recount::{step_count, steps, visits, window_part, word, Address};
+use std::collections::{BTreeMap, BTreeSet};
+
+const HELD: &str = "calls after which all counts were held to the visits";
+const REFUSED: &str = "refused calls among these";
+const ANEW: &str = "openings among these that follow accepted adds";
+const TWICE: &str = "paths taken that visit a node more than once";
+const TO_ITSELF: &str = "paths taken that go from a node to itself";
+const ALL_LEFT: &str = "adds after which a listed node's total is 0, since its paths have left the window";
+const BEGAN: &str = "adds after which a node has visits, and a path that began at it has left the window";
+const WITH_GOKO: &str = "openings and adds after which goko's totals were held to the visits";
+const ZERO_IN_GOKO: &str = "adds among these after which a node's total is 0 in goko, too";
+
+/// What is to be met without goko and with it.
+const MET: [&str; 7] = [HELD, REFUSED, ANEW, TWICE, TO_ITSELF, ALL_LEFT, BEGAN];
+const MET_WITH_GOKO: [&str; 2] = [WITH_GOKO, ZERO_IN_GOKO];
+
+/// All that is to be met, as far as goko's sources are there.
+pub fn to_be_met() -> impl Iterator<Item = &'static str> {
+    MET.into_iter().chain(MET_WITH_GOKO.into_iter().filter(|_| oracle::PRESENT))
+}
+
+/// A listed node and its evidence total.
+pub type Total = (Address, u64);
+
+/// W and H since the last accepted opening, and what the window part tells of its nodes.
+#[derive(Debug, Default)]
+pub struct Visited {
+    /// W, none before the first accepted opening.
+    window: Option<u32>,
+    paths: Vec<Vec<Address>>,
+    visits: BTreeMap<Address, u64>,
+    /// The nodes that a path of the window part holds.
+    held: BTreeSet<Address>,
+    steps: u64,
+}
+
+impl Visited {
+    /// Takes in a call and its answer: an accepted opening sets W and empties H, an accepted add appends
+    /// its path to H, and nothing else changes them.
+    pub fn hear(&mut self, call: &Call, answer: &Answer) {
+        match (call, answer) {
+            (Call::Open { window, .. }, Answer::Changed(Ok(()))) => {
+                *self = Visited { window: Some(*window), ..Visited::default() };
+            }
+            (Call::Add { path }, Answer::Changed(Ok(()))) => {
+                self.paths.push(steps(path));
+                let window_part = window_part(self.window.unwrap_or(0), &self.paths);
+                self.visits = visits(window_part);
+                self.held = window_part.iter().flatten().copied().collect();
+                self.steps = step_count(window_part);
+            }
+            _ => {}
+        }
+    }
+
+    /// Takes in a call and its answer, and holds what the book's used entries then count to the visits.
+    /// Before the first accepted opening there is nothing to hold.
+    pub fn hold(
+        &mut self,
+        call: &Call,
+        answer: &Answer,
+        (used, book): (u32, &[u8]),
+        met: &mut Met,
+    ) -> Compared {
+        let had_paths = !self.paths.is_empty();
+        self.hear(call, answer);
+        if self.window.is_none() {
+            return Ok(());
+        }
+        let totals = totals(used, book)?;
+        self.hold_totals(&totals)?;
+        met.count(HELD, true);
+        met.count(REFUSED, answer.refusal().is_some());
+        match (call, answer) {
+            (Call::Open { .. }, Answer::Changed(Ok(()))) => met.count(ANEW, had_paths),
+            (Call::Add { .. }, Answer::Changed(Ok(()))) => met.added(self, &totals),
+            _ => {}
+        }
+        Ok(())
+    }
+
+    /// Holds the evidence totals of all listed nodes, ascending, to the visits: each is its node's visits,
+    /// and 0 just where no path of the window part holds the node; nodes that are not listed have none;
+    /// all together are the window part's steps.
+    pub fn hold_totals(&self, totals: &[Total]) -> Compared {
+        for (node, total) in totals {
+            let visits = self.visits.get(node).copied().unwrap_or(0);
+            must(*total == visits, || format!("{:?} has a total of {} and {} visits", node, total, visits))?;
+            must((*total > 0) == self.held.contains(node), || {
+                format!("{:?} has a total of {}, and the window part holds {:?}", node, total, self.held)
+            })?;
+        }
+        let listed = |node: &Address| totals.binary_search_by_key(node, |(listed, _)| *listed).is_ok();
+        let lost = self.visits.keys().find(|node| !listed(node));
+        must(lost.is_none(), || format!("{:?} has visits and is not listed", lost))?;
+        let counts: u64 = totals.iter().map(|(_, total)| total).sum();
+        must(counts == self.steps, || format!("all counts are {}, the steps {}", counts, self.steps))
+    }
+
+    /// The paths of H that have left the window.
+    fn left(&self) -> &[Vec<Address>] {
+        let kept = window_part(self.window.unwrap_or(0), &self.paths).len();
+        &self.paths[..self.paths.len() - kept]
+    }
+}
+
+/// The evidence totals of all listed nodes, as the used entries have them.
+fn totals(used: u32, book: &[u8]) -> Result<Vec<Total>, String> {
+    let mut totals: Vec<Total> = Vec::new();
+    for entry in book.chunks(ENTRY_BYTES).take(used as usize) {
+        let (node, kind, count) = (Address::read(entry), word(entry, 2), u64::from(word(entry, 5)));
+        match totals.last_mut() {
+            _ if kind == 0 => totals.push((node, count)),
+            Some((listed, total)) if *listed == node => *total += count,
+            _ => return Err(format!("{:?} has a child's entry and is not listed", node)),
+        }
+    }
+    Ok(totals)
+}
+
+impl Met {
+    /// Counts an accepted add, after which the listed nodes have these totals.
+    fn added(&mut self, visited: &Visited, totals: &[Total]) {
+        if let Some(path) = visited.paths.last() {
+            let by_this_path = visits(std::slice::from_ref(path));
+            self.count(TWICE, by_this_path.values().any(|visits| *visits > 1));
+            self.count(TO_ITSELF, path.windows(2).any(|pair| pair[0] == pair[1]));
+        }
+        self.count(ALL_LEFT, totals.iter().any(|(_, total)| *total == 0));
+        self.count(BEGAN, visited.left().iter().any(|path| visited.visits.contains_key(&path[0])));
+    }
+
+    /// Counts an opening or an add after which goko's totals are these, and were held to the visits.
+    pub fn goko_visited(&mut self, totals: &[Total]) {
+        self.count(WITH_GOKO, true);
+        self.count(ZERO_IN_GOKO, totals.iter().any(|(_, total)| *total == 0));
+    }
+}

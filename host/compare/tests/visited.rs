@@ -1,0 +1,87 @@
+//! What holds counts to visits, on books that count wrong: each must be told.
+
+use cases::calls::Call;
+use cases::play::{Bytes, Player, Side};
+use compare::{Met, Visited};
+use recount::limits::{ENTRY_BYTES, PLACE_BYTES};
+use recount::{path_bytes, word, Address};
+
+const ONE: Address = Address::new(-1, 7);
+const TWO: Address = Address::new(0, 3);
+
+/// A call after which nothing has changed.
+const READING: Call = Call::KlDivStats;
+
+/// Plays calls on lent bytes, each held to the visits.
+fn played(calls: &[Call]) -> (Player<Bytes>, Visited) {
+    let (mut player, mut visited) = (Player::new(Bytes::filled(0xa5)), Visited::default());
+    for call in calls {
+        let answer = player.play(call);
+        let (used, book) = (player.side.state().used, player.side.book());
+        visited.hold(call, &answer, (used, &book), &mut Met::default()).expect("the bytes count the visits");
+    }
+    (player, visited)
+}
+
+/// Window 1: the path (ONE, TWO, ONE) has left it, the path (TWO, TWO) is in it. The used entries are ONE's
+/// ending with 0, ONE to TWO with 0, TWO's ending with 1, TWO to ONE with 0 and TWO to TWO with 1.
+fn two_adds() -> (Player<Bytes>, Visited) {
+    played(&[
+        Call::Open { window: 1, book_len: 6 * ENTRY_BYTES, queue_len: PLACE_BYTES },
+        Call::Add { path: path_bytes(&[ONE, TWO, ONE]) },
+        Call::Add { path: path_bytes(&[TWO, TWO]) },
+    ])
+}
+
+/// Whether entries in place of those that the bytes have pass.
+fn passes((mut player, mut visited): (Player<Bytes>, Visited), used: u32, book: &[u8]) -> bool {
+    let answer = player.play(&READING);
+    visited.hold(&READING, &answer, (used, book), &mut Met::default()).is_ok()
+}
+
+#[test]
+fn the_bytes_themselves() {
+    let (player, _) = two_adds();
+    let (used, book) = (player.side.state().used, player.side.book());
+    let counts: Vec<u32> = book.chunks(ENTRY_BYTES).take(5).map(|entry| word(entry, 5)).collect();
+    assert_eq!((used, &counts[..]), (5, &[0, 0, 1, 0, 1][..]));
+    assert!(passes(two_adds(), used, &book));
+}
+
+#[test]
+fn a_count_too_many_or_too_few() {
+    let book = two_adds().0.side.book();
+    for entry in 0..5 {
+        for count in [0, 1, 2] {
+            let mut altered = book.clone();
+            altered[ENTRY_BYTES * entry + 20] = count;
+            let right = altered == book;
+            assert_eq!(passes(two_adds(), 5, &altered), right, "entry {} with count {}", entry, count);
+        }
+    }
+}
+
+#[test]
+fn a_count_of_another_node() {
+    let mut book = two_adds().0.side.book();
+    book[20] = 1;
+    book[ENTRY_BYTES * 2 + 20] = 0;
+    assert!(!passes(two_adds(), 5, &book), "all counts together are the steps, but each node's are not");
+}
+
+#[test]
+fn a_node_that_is_not_listed() {
+    let book = two_adds().0.side.book();
+    assert!(!passes(two_adds(), 2, &book), "TWO has visits");
+    assert!(!passes(two_adds(), 4, &book), "TWO has one visit more");
+    assert!(!passes(two_adds(), 0, &book), "nothing is listed");
+    let without_ending = [&book[..ENTRY_BYTES * 2], &book[ENTRY_BYTES * 3..]].concat();
+    assert!(!passes(two_adds(), 4, &without_ending), "TWO has children's entries alone");
+}
+
+#[test]
+fn entries_after_an_opening() {
+    let book = two_adds().0.side.book();
+    let anew = || played(&[Call::Open { window: 1, book_len: 6 * ENTRY_BYTES, queue_len: PLACE_BYTES }]);
+    assert!(passes(anew(), 0, &book) && !passes(anew(), 5, &book));
+}
