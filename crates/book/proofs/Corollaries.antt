@@ -95,9 +95,9 @@ told r k = record {
   node-listed = λ a. rw (rows-are r k) (exactly W H (endKey a) (node-listed W H (k .ranks) a));
   ending-count = λ a c e. found-is (total (occurrences a) H) (total (endings a) (windowPart W H)) c (sym (look-ending W H (k .ranks) a) ∙ exact W H (endKey a) ∙ (rw (rows-are r k) at e));
   used-le = omega (arith, length-rows W H (k .whole), length-image W H);
-  visited = λ a. rw (rows-are r k) (total-visits W H (k .ranks) a);
+  total-visits = λ a. rw (rows-are r k) (total-visits W H (k .ranks) a);
+  total-none = λ a. rw (rows-are r k) (total-none W H (k .ranks) a);
   unlisted = λ a h. never-visited W H a (λ s. h (rw (rows-are r k) (exactly W H (endKey a) (node-listed W H (k .ranks) a) .1 s)));
-  unvisited = λ a. rw (rows-are r k) (total-none W H (k .ranks) a);
   all-counts = rw (rows-are r k) (all-counts W H);
 }
   where

@@ -16,7 +16,7 @@ use Rattle.book.specs.Recount.{windowPart, enter, enterAll, listing}
 use Rattle.book.specs.Figures.{total}
 use Rattle.book.specs.Visits.{arrivals, beginnings, visits, evidenceTotal}
 use Rattle.book.specs.Claims.{BookCall, opening, add, runs, Machine, bookStep, recountStep, openRefusal, addRefusal, restarted}
-use Rattle.book.specs.Corollaries.{entriesOf}
+use Rattle.book.specs.Corollaries.{acceptedSince, entriesOf}
 
 abbrev high : List ℕ
 high = 1 ∷ 0 ∷ 0 ∷ 0 ∷ 7 ∷ 0 ∷ 0 ∷ 0 ∷ []
@@ -57,9 +57,13 @@ entries-left : entriesOf (runs bookStep before calls .1) ≡ row (endKey (rank 0
 unfolding before runs bookStep openNumber openState openBook openQueue addNumber addState stateAfter addBook bookAfter addQueue rowsAfter leaving queueWith placeBytes inForm stateFits queueFits bookFits formed formedAfter follows plain lengthsFit rows rowAt keyAt bytesOf rowBytes nodeOf kindOf childOf store wholePath changeAll change addRows listedKeys countedKeys stepsOf word rank lift endKey childKey keyOf
 entries-left = refl
 
--- the paths that were taken: with a window of 1 the last one counts, where (1,7) begins; with a window of 0 both do
+-- the paths that were taken; with a window of 1 the last one counts, where (1,7) begins, with a window of 0 both do
 abbrev taken : List Steps
 taken = (rank 1 7 ∷ rank 0 9 ∷ []) ∷ (rank 1 7 ∷ []) ∷ []
+
+taken-are : acceptedSince [] calls (runs recountStep (restarted 0 0 0) calls .0) ≡ taken
+unfolding acceptedSince runs recountStep openRefusal addRefusal listing enterAll enter flatMap listedKeys stepsOf word rank lift endKey childKey keyOf
+taken-are = refl
 
 visits-left : map (visits 1 taken) (rank 1 7 ∷ rank 0 9 ∷ []) ≡ 1 ∷ 0 ∷ []
 unfolding visits arrivals beginnings total windowPart rank lift

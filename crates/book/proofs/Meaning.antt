@@ -129,6 +129,13 @@ somewhere f (p ∷ H) h = go (f p) refl (somewhere f H)
     go zero e ih = let s = ih (omega arith) in (s .0, List·Memᴰ·tail (s .1), s .2)
     go (suc n) e ih = (p, List·Memᴰ·head refl, omega arith)
 
+pub nowhere : (f : Steps → ℕ) (H : List Steps) → (Somewhere f H → ⊥) → total f H ≡ 0
+nowhere f H o = go (total f H) refl
+  where
+    go : (n : ℕ) → total f H ≡ n → n ≡ 0
+    go zero e = refl
+    go (suc n) e = absurd (o (somewhere f H (omega arith)))
+
 pub total-above : (f : Steps → ℕ) (H : List Steps) (p : Steps) → List·Memᴰ p H → f p ≤ total f H
 unfolding total
 total-above f [] p m = absurd (List·Memᴰ·not-nil m)

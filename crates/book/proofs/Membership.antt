@@ -1,5 +1,5 @@
 -- What stands in a list, told by how often it does; in joined lists, in ascending lists, and in a listing that keys were entered into. Assumes nothing.
-use mathlib.Core.Path.{_≡_, refl}
+use mathlib.Core.Path.{_≡_, refl, _∙_}
 use mathlib.Core.Logic.{_⊎_, inl, inr, ⊎-elim}
 use Prim.Native.Nat.{ℕ, zero, suc, _≤_, _<_}
 use native.Mathlib.Omega.{arith}
@@ -9,7 +9,7 @@ use Rattle.priors.specs.Rows.{Ascends}
 use Rattle.book.specs.Path.{Steps, listedKeys}
 use Rattle.book.specs.Recount.{occurrences, enter, enterAll, listing}
 use Rattle.priors.proofs.Orders.{Alike, alike, unlike, compared, Side, below, same, above, side}
-use Rattle.book.proofs.Occurrences.{occ-nil, occ-cons, occ-append}
+use Rattle.book.proofs.Occurrences.{hit, occ-nil, occ-cons, occ-append}
 
 -- k stands in the list
 abbrev pub In : ℕ → List ℕ → Type 0
@@ -56,6 +56,19 @@ in-above a k (x ∷ ks) h i = go (in-cons k x ks i) (in-above (suc x) k ks (h .1
     go : (k ≡ x) ⊎ In k ks → (In k ks → suc x ≤ k) → a ≤ k
     go (inl q) ih = omega arith
     go (inr m) ih = omega (arith, ih m)
+
+-- and it stands there once
+pub once : (a k : ℕ) (ks : List ℕ) → Ascends a ks → In k ks → occurrences k ks ≡ 1
+once a k [] h i = in-none k i
+once a k (x ∷ ks) h i = go (compared k x) (once (suc x) k ks (h .1))
+  where
+    none-left : (n : ℕ) → occurrences k ks ≡ n → k ≡ x → occurrences k ks ≡ 0
+    none-left zero e q = e
+    none-left (suc n) e q = absurd (omega (arith, in-above (suc x) k ks (h .1) (omega arith)))
+
+    go : Alike k x → (In k ks → occurrences k ks ≡ 1) → occurrences k (x ∷ ks) ≡ 1
+    go (alike q e) ih = occ-cons k x ks ∙ rw e (omega (arith, none-left (occurrences k ks) refl q))
+    go (unlike q e) ih = let z : hit k x ≡ 0 = rw e in omega (arith, occ-cons k x ks, ih (omega (arith, occ-cons k x ks)))
 
 -- ---- what entering keys lists
 

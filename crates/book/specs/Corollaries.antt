@@ -1,7 +1,6 @@
 -- What the claim comes to without the recount (`Corollary` of divergence): H and W are read off the calls and the numbers that they were answered, as the paths
--- accepted since the last accepted opening and that opening's window; the book then tells which transitions and nodes stand in H, and how often in the window part, and
--- what goes in comes out: a node's counts are its visits.
--- Then what single calls leave, and what the form reads. Assumes nothing.
+-- accepted since the last accepted opening and that opening's window; the book then tells which transitions and nodes stand in H, and how often in the window part; and
+-- what goes in comes out, a node's counts together being its visits. Then what single calls leave, and what the form reads. Assumes nothing.
 use Prim.Native.Nat.{ℕ, suc, _+_, _*_, _^_, _<_, _≤_}
 use mathlib.Core.Path.{_≡_}
 use mathlib.Core.Logic.{_↔_}
@@ -61,11 +60,11 @@ pub record Told (m : Machine) (W : ℕ) (H : List Steps) : Type 0 where
   -- of the paths of H, p in number and of s steps in all, at most 2s - p entries are used
   pub used-le : m .state .used + length H ≤ 2 * total length H
   -- a node's evidence total is its visits, listed or not
-  pub visited : (node : ℕ) → evidenceTotal node (entriesOf m) ≡ visits W H node
-  -- one that is not listed has none
+  pub total-visits : (node : ℕ) → evidenceTotal node (entriesOf m) ≡ visits W H node
+  -- the total is 0 exactly where no path of the window part holds the node
+  pub total-none : (node : ℕ) → (evidenceTotal node (entriesOf m) ≡ 0) ↔ (Somewhere (occurrences node) (windowPart W H) → ⊥)
+  -- a node that is not listed has no visits
   pub unlisted : (node : ℕ) → (HasRow (endKey node) (entriesOf m) → ⊥) → visits W H node ≡ 0
-  -- it is 0 exactly where no path of the window part holds the node
-  pub unvisited : (node : ℕ) → (evidenceTotal node (entriesOf m) ≡ 0) ↔ (Somewhere (occurrences node) (windowPart W H) → ⊥)
   -- all counts together are the steps of the window part
   pub all-counts : countSum (entriesOf m) ≡ total length (windowPart W H)
 

@@ -74,9 +74,15 @@ module _ (a b : ℕ) where
   followers-rank [] h i = in-none b i
   followers-rank (p ∷ H) h i = ⊎-elim (follower-rank p (h .0)) (followers-rank H (h .1)) (in-append b (followers a p) (flatMap (followers a) H) i)
 
+  pub followers-total : (H : List Steps) → AllRanks H → occurrences b (flatMap (followers a) H) ≡ total (transitions a b) H
+  followers-total = occ-total b (followers a) (transitions a b) (λ p h. followers-count p)
+
 -- ---- the listing, node by node
 
 module _ (H : List Steps) (ranks : AllRanks H) where
+  pub stands-total : (a : ℕ) → occurrences a (flatMap (λ (p : Steps). p) H) ≡ total (occurrences a) H
+  stands-total a = occ-total a (λ (p : Steps). p) (occurrences a) (λ p h. refl) H ranks
+
   abbrev children : ℕ → List ℕ
   children a = childrenListed a H
 
@@ -86,12 +92,12 @@ module _ (H : List Steps) (ranks : AllRanks H) where
 
   -- an ending is listed as often as its node stands in the paths, a child as often as it follows
   ends-all : (a : ℕ) → occurrences (endKey a) (flatMap listedKeys H) ≡ occurrences a (flatMap (λ (p : Steps). p) H)
-  ends-all a = occ-total (endKey a) listedKeys (occurrences a) (ends-listed a) H ranks ∙ sym (occ-total a (λ (p : Steps). p) (occurrences a) (λ p h. refl) H ranks)
+  ends-all a = occ-total (endKey a) listedKeys (occurrences a) (ends-listed a) H ranks ∙ sym (stands-total a)
 
   children-all : (a b : ℕ) → b < 2 ^ 64 → occurrences (childKey a b) (flatMap listedKeys H) ≡ occurrences b (flatMap (followers a) H)
   children-all a b r =
       occ-total (childKey a b) listedKeys (transitions a b) (child-listed a b r) H ranks
-      ∙ sym (occ-total b (followers a) (transitions a b) (λ p h. followers-count a b p) H ranks)
+      ∙ sym (followers-total a b H ranks)
 
   node-in : (a : ℕ) → In (endKey a) (listing H) → In a (nodesListed H)
   unfolding nodesListed

@@ -8,7 +8,7 @@ use mathlib.Core.List.{List, [], _∷_, map, flatMap}
 use mathlib.Core.Option.{none, some, Option·map}
 use mathlib.Core.Bool.{Bool, true, false, cond}
 use lib.Dec.{eqb}
-use lib.ListN.{length, length-append}
+use lib.ListN.{length}
 use borrow.Author.Tests.{eq-eqb, ne-eqb}
 use Rattle.priors.specs.Rows.{row}
 use Rattle.priors.specs.Priors.{countSum}
@@ -18,14 +18,14 @@ use Rattle.book.specs.Recount.{occurrences, windowPart}
 use Rattle.book.specs.Figures.{total, transitions, endings, AllRanks, Somewhere}
 use Rattle.book.specs.Visits.{visits}
 use Rattle.priors.proofs.Orders.{Alike, alike, unlike, compared}
-use Rattle.book.proofs.Sums.{total-window}
-use Rattle.book.proofs.Meaning.{occ-total, ranks-window, somewhere, total-above}
-use Rattle.book.proofs.Membership.{In, in-head, in-tail, in-cons, in-none, enterAll-in}
-use Rattle.book.proofs.VisitLaws.{departures, goes-out, total-both, visits-are, sum-once, once}
+use Rattle.book.proofs.Sums.{length-total, total-window, sum-once}
+use Rattle.book.proofs.Meaning.{ranks-window, somewhere, total-above}
+use Rattle.book.proofs.Membership.{In, in-head, in-tail, in-cons, in-none, once, enterAll-in}
+use Rattle.book.proofs.VisitLaws.{departures, goes-out, total-both, visits-are}
 use Rattle.divergence.specs.Nodes.{evidenceOf}
 use Rattle.divergence.specs.RecountNodes.{followers, childrenListed, nodeCounted, nodesListed, recountNodes}
 use Rattle.divergence.proofs.AscentLaws.{in-entered, ascends-entered}
-use Rattle.divergence.proofs.RecountNodeLaws.{followers-count}
+use Rattle.divergence.proofs.RecountNodeLaws.{followers-total, stands-total}
 
 -- ---- the steps that follow
 
@@ -39,36 +39,25 @@ length-followers a (x ∷ y ∷ p) = go (eqb a x) (length-followers a (y ∷ p))
     go true ih = omega arith
     go false ih = omega arith
 
-followers-all : (a : ℕ) (P : List Steps) → length (flatMap (followers a) P) ≡ total (departures a) P
-unfolding flatMap total
-followers-all a [] = refl
-followers-all a (p ∷ P) = omega (arith, length-append (followers a p) (flatMap (followers a) P), length-followers a p, followers-all a P)
-
 -- ---- a listed node
 
 module _ (W : ℕ) (H : List Steps) (ranks : AllRanks H) (a : ℕ) where
-  abbrev P : List Steps
-  P = windowPart W H
-
-  follows : (G : List Steps) → AllRanks G → (b : ℕ) → occurrences b (flatMap (followers a) G) ≡ total (transitions a b) G
-  follows G h b = occ-total b (followers a) (transitions a b) (λ p i. followers-count a b p) G h
-
   -- each step that follows in the window part has one row
-  follows-once : (b : ℕ) → In b (flatMap (followers a) P) → occurrences b (childrenListed a H) ≡ 1
+  follows-once : (b : ℕ) → In b (flatMap (followers a) (windowPart W H)) → occurrences b (childrenListed a H) ≡ 1
   unfolding childrenListed
   follows-once b i =
       once 0 b (childrenListed a H) (ascends-entered (flatMap (followers a) H))
-      (enterAll-in b (flatMap (followers a) H) [] (omega (arith, follows P (ranks-window W H ranks) b, follows H ranks b, total-window (transitions a b) W H)))
+      (enterAll-in b (flatMap (followers a) H) [] (omega (arith, followers-total a b (windowPart W H) (ranks-window W H ranks), followers-total a b H ranks, total-window (transitions a b) W H)))
 
-  children-sum : countSum (map (λ b. row b (total (transitions a b) P)) (childrenListed a H)) ≡ total (departures a) P
-  children-sum =
-      sym (λ i. countSum (map (λ b. row b (follows P (ranks-window W H ranks) b i)) (childrenListed a H)))
-      ∙ sum-once (childrenListed a H) (flatMap (followers a) P) follows-once
-      ∙ followers-all a P
+  followed : countSum (map (λ b. row b (total (transitions a b) (windowPart W H))) (childrenListed a H)) ≡ total (departures a) (windowPart W H)
+  followed =
+      sym (λ i. countSum (map (λ b. row b (followers-total a b (windowPart W H) (ranks-window W H ranks) i)) (childrenListed a H)))
+      ∙ sum-once (childrenListed a H) (flatMap (followers a) (windowPart W H)) follows-once
+      ∙ length-total (followers a) (departures a) (length-followers a) (windowPart W H)
 
   node-visits : Priors.total (nodeCounted W H a .evidence) ≡ visits W H a
   unfolding Priors.total nodeCounted
-  node-visits = omega (arith, children-sum, total-both (departures a) (endings a) (occurrences a) (goes-out a) P, visits-are W H a)
+  node-visits = omega (arith, followed, total-both (departures a) (endings a) (occurrences a) (goes-out a) (windowPart W H), visits-are W H a)
 
   -- ---- the evidence of a listed node, and of one that is not listed
 
@@ -86,16 +75,12 @@ module _ (W : ℕ) (H : List Steps) (ranks : AllRanks H) (a : ℕ) where
   evidence-none [] o = refl
   evidence-none (n ∷ ns) o = rw (ne-eqb n a (λ q. o (in-head a n ns (sym q)))) (evidence-none ns (λ i. o (in-tail a n ns i)))
 
-  -- how often it stands in the paths of H
-  stands : occurrences a (flatMap (λ (p : Steps). p) H) ≡ total (occurrences a) H
-  stands = occ-total a (λ (p : Steps). p) (occurrences a) (λ p h. refl) H ranks
-
   pub evidence-visits : Somewhere (occurrences a) H → Option·map Priors.total (evidenceOf a (recountNodes W H)) ≡ some (visits W H a)
   unfolding recountNodes nodesListed
   evidence-visits s =
-      ap (Option·map Priors.total) (evidence-some (nodesListed H) (enterAll-in a (flatMap (λ (p : Steps). p) H) [] (omega (arith, stands, total-above (occurrences a) H (s .0) (s .1), s .2))))
+      ap (Option·map Priors.total) (evidence-some (nodesListed H) (enterAll-in a (flatMap (λ (p : Steps). p) H) [] (omega (arith, stands-total H ranks a, total-above (occurrences a) H (s .0) (s .1), s .2))))
       ∙ ap some node-visits
 
   pub evidence-missing : (Somewhere (occurrences a) H → ⊥) → evidenceOf a (recountNodes W H) ≡ none
   unfolding recountNodes nodesListed
-  evidence-missing o = evidence-none (nodesListed H) (λ i. o (somewhere (occurrences a) H (omega (arith, stands, in-entered a (flatMap (λ (p : Steps). p) H) i))))
+  evidence-missing o = evidence-none (nodesListed H) (λ i. o (somewhere (occurrences a) H (omega (arith, stands-total H ranks a, in-entered a (flatMap (λ (p : Steps). p) H) i))))

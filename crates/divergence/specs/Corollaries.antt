@@ -73,7 +73,7 @@ TotalsAreVisits m W H =
     × ((HasRow (endKey node) (entriesOf m) → ⊥) → evidenceOf node (nodesOf (m .state) (m .book)) ≡ none)
 
 -- whatever there was before: after any openings, one that is accepted and any calls, the book tells what the paths accepted since the last accepted opening hold, in
--- counts that are visits, and a reading answers by these paths and that opening's window
+-- totals that are visits, and a reading answers by these paths and that opening's window
 abbrev pub Corollary : Type 0
 Corollary =
     (m : Machine) (first : List Call) → All IsOpening first

@@ -1,6 +1,7 @@
 //! Holds answers against goko's, the recount's or the archive's. Where they refuse by a limit
 //! that goko does not have, or where goko's index of a layer leaves 32 bits, nothing is compared;
 //! where they refuse with 14, 15 or 18, goko must break off, or give none for 14 of a single node.
+//! goko's own totals are held to the visits.
 
 use crate::{Compared, Tally, Total, Visited};
 use cases::baselines::{StatsAsked, Training};
@@ -9,7 +10,7 @@ use cases::lookups::{Looked, PriorsCase};
 use cases::play::{Answer, History, Player, Side};
 use oracle::{Goko, NodeAddress, Panic};
 use recount::limits::{KNOT_VALUES, RECORD_BYTES};
-use recount::{check_priors, same_figure, Address, ChildLookup, Evidence, Refusal, Tracker};
+use recount::{check_priors, same_figure, word, Address, ChildLookup, Evidence, Refusal, Tracker};
 
 /// goko's form of an address.
 fn node_address(address: Address) -> NodeAddress {
@@ -25,8 +26,8 @@ fn node_addresses(bytes: &[u8]) -> Vec<NodeAddress> {
 fn goko_priors(priors: &PriorBytes) -> Vec<oracle::Prior> {
     let prior = |node: &[u8]| oracle::Prior {
         address: node_address(Address::read(node)),
-        singleton_count: field(node, 2),
-        children: chain(&priors.children, field(node, 3)),
+        singleton_count: word(node, 2),
+        children: chain(&priors.children, word(node, 3)),
     };
     match check_priors(priors.lent()) {
         Ok(_) => priors.nodes.chunks(RECORD_BYTES).map(prior).collect(),
@@ -37,14 +38,8 @@ fn goko_priors(priors: &PriorBytes) -> Vec<oracle::Prior> {
 /// The chain that begins at the record with number `first`.
 fn chain(children: &[u8], first: u32) -> Vec<(NodeAddress, u32)> {
     let numbered = |link: u32| children.chunks(RECORD_BYTES).nth((link as usize).checked_sub(1)?);
-    let records = std::iter::successors(numbered(first), |child| numbered(field(child, 3)));
-    records.map(|child| (node_address(Address::read(child)), field(child, 2))).collect()
-}
-
-/// The field number `index` of a record.
-fn field(record: &[u8], index: usize) -> u32 {
-    let bytes = &record[4 * index..4 * index + 4];
-    u32::from_le_bytes([bytes[0], bytes[1], bytes[2], bytes[3]])
+    let records = std::iter::successors(numbered(first), |child| numbered(word(child, 3)));
+    records.map(|child| (node_address(Address::read(child)), word(child, 2))).collect()
 }
 
 fn same(tally: &mut Tally, what: &str, ours: f64, theirs: f64) -> Compared {
@@ -142,8 +137,9 @@ impl Beside {
         equal("sequence length", evidence.sequence_len as usize, self.0.sequence_len())?;
         equal("counts", goko_evidence(&evidence), self.0.evidence())?;
         let totals = self.totals()?;
+        visited.hold_totals(&totals).map_err(|text| format!("goko: {}", text))?;
         tally.met.goko_visited(&totals);
-        visited.hold_totals(&totals).map_err(|text| format!("goko: {}", text))
+        Ok(())
     }
 
     /// goko's evidence totals, each a whole number.

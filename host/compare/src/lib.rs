@@ -1,5 +1,5 @@
-//! What holds goko, the recount and the recount's part for lent bytes together; the program
-//! `compare` runs it on many cases, and `through` holds the archive's answers against goko's.
+//! What holds goko, the recount and the recount's part for lent bytes together, and counts to visits;
+//! the program `compare` runs it on many cases, and `through` holds the archive's answers against goko's.
 //! Without goko's sources the module `goko` compares nothing.
 
 mod floors;

@@ -1,6 +1,7 @@
 //! Compares goko with the recount on many call lists, trainings, `stats` readings and look-ups of
 //! children, every figure bit for bit wherever goko does not panic; and the recount with its own part
-//! for lent bytes, on the same lists and on altered memory. The seed decides all of it.
+//! for lent bytes, on the same lists and on altered memory; and all counts with the visits. The seed
+//! decides all of it.
 //!
 //!     compare [--lists N] [--seed S]
 

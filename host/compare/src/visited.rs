@@ -39,9 +39,11 @@ pub struct Visited {
     window: Option<u32>,
     paths: Vec<Vec<Address>>,
     visits: BTreeMap<Address, u64>,
-    /// The nodes that a path of the window part holds.
+    /// The nodes that a path of the window part holds, told by the steps alone.
     held: BTreeSet<Address>,
     steps: u64,
+    /// The nodes that a path which has left the window began at.
+    began: BTreeSet<Address>,
 }
 
 impl Visited {
@@ -58,13 +60,15 @@ impl Visited {
                 self.visits = visits(window_part);
                 self.held = window_part.iter().flatten().copied().collect();
                 self.steps = step_count(window_part);
+                let left = self.paths.len() - window_part.len();
+                self.began.extend(self.paths[..left].last().map(|path| path[0]));
             }
             _ => {}
         }
     }
 
     /// Takes in a call and its answer, and holds what the book's used entries then count to the visits.
-    /// Before the first accepted opening there is nothing to hold.
+    /// Before the first accepted opening there is nothing to hold, and a lending is no call.
     pub fn hold(
         &mut self,
         call: &Call,
@@ -74,7 +78,7 @@ impl Visited {
     ) -> Compared {
         let had_paths = !self.paths.is_empty();
         self.hear(call, answer);
-        if self.window.is_none() {
+        if self.window.is_none() || matches!(answer, Answer::Lent) {
             return Ok(());
         }
         let totals = totals(used, book)?;
@@ -106,12 +110,6 @@ impl Visited {
         let counts: u64 = totals.iter().map(|(_, total)| total).sum();
         must(counts == self.steps, || format!("all counts are {}, the steps {}", counts, self.steps))
     }
-
-    /// The paths of H that have left the window.
-    fn left(&self) -> &[Vec<Address>] {
-        let kept = window_part(self.window.unwrap_or(0), &self.paths).len();
-        &self.paths[..self.paths.len() - kept]
-    }
 }
 
 /// The evidence totals of all listed nodes, as the used entries have them.
@@ -137,7 +135,7 @@ impl Met {
             self.count(TO_ITSELF, path.windows(2).any(|pair| pair[0] == pair[1]));
         }
         self.count(ALL_LEFT, totals.iter().any(|(_, total)| *total == 0));
-        self.count(BEGAN, visited.left().iter().any(|path| visited.visits.contains_key(&path[0])));
+        self.count(BEGAN, visited.began.iter().any(|node| visited.visits.contains_key(node)));
     }
 
     /// Counts an opening or an add after which goko's totals are these, and were held to the visits.
