@@ -6,9 +6,9 @@ pub mod Window
 pub mod Image
 pub mod Step
 -- what follows from the rows being the recount's:
+pub mod Membership
 pub mod Sums
 pub mod Meaning
-pub mod Membership
 pub mod ListingForm
 pub mod VisitLaws
 -- what code needs besides, one pass over a path and the number of rows that would come in:

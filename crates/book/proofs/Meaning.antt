@@ -4,13 +4,13 @@
 -- Assumes nothing.
 use mathlib.Core.Path.{_≡_, refl, sym, ap, ap₂, _∙_}
 use mathlib.Core.Logic.{_↔_, _⊎_, inl, inr}
-use Prim.Native.Nat.{ℕ, zero, suc, _+_, _^_, _-_, _≤_, _<_}
+use Prim.Native.Nat.{ℕ, zero, suc, _+_, _^_, _≤_, _<_}
 use native.Mathlib.Omega.{arith}
 use mathlib.Core.List.{List, [], _∷_, flatMap, List·Memᴰ, List·Memᴰ·head, List·Memᴰ·tail, List·Memᴰ·cases-cons, List·Memᴰ·not-nil}
 use mathlib.Core.Option.{some}
 use mathlib.Core.Bool.{cond, _&&_}
 use lib.Dec.{eqb}
-use lib.ListN.{length, drop}
+use lib.ListN.{drop}
 use borrow.Author.Tests.{eq-eqb, ne-eqb}
 use Rattle.priors.specs.Rows.{Row, look}
 use Rattle.priors.specs.Address.{lift, rank}
@@ -21,6 +21,7 @@ use Rattle.book.specs.Figures.{total, transitions, endings, Ranks, AllRa
 use Rattle.priors.proofs.Orders.{Alike, alike, unlike, compared}
 use Rattle.book.proofs.Passes.{found}
 use Rattle.book.proofs.Occurrences.{hit, occ-nil, occ-cons, occ-append}
+use Rattle.book.proofs.Window.{window-drop}
 use Rattle.book.proofs.Image.{look-rows}
 
 -- ---- keys that differ
@@ -101,9 +102,11 @@ ranks-drop (suc n) [] h = h
 ranks-drop (suc n) (p ∷ H) h = ranks-drop n H (h .1)
 
 pub ranks-window : (W : ℕ) (H : List Steps) → AllRanks H → AllRanks (windowPart W H)
-unfolding windowPart
-ranks-window zero H h = h
-ranks-window (suc w) H h = ranks-drop (length H - suc w) H h
+ranks-window W H h = let d = window-drop W H in rw (d .1) (ranks-drop (d .0) H h)
+
+-- how often a node stands in the paths
+pub stands-total : (a : ℕ) (H : List Steps) → AllRanks H → occurrences a (flatMap (λ (p : Steps). p) H) ≡ total (occurrences a) H
+stands-total a = occ-total a (λ (p : Steps). p) (occurrences a) (λ p h. refl)
 
 module _ (W : ℕ) (H : List Steps) (ranks : AllRanks H) (a : ℕ) where
   pub look-ending : look (endKey a) (rowsOf W H) ≡ found (total (occurrences a) H) (total (endings a) (windowPart W H))

@@ -35,7 +35,7 @@ occ-append k (x ∷ xs) ys = omega (arith, occ-cons k x xs, occ-cons k x (xs ++ 
 pub counted-listed : (k : ℕ) (p : Steps) → occurrences k (countedKeys p) ≤ occurrences k (listedKeys p)
 unfolding listedKeys countedKeys
 counted-listed k [] = omega arith
-counted-listed k (a ∷ []) = omega arith
+counted-listed k (a ∷ []) = omega (arith, occ-nil k, occ-cons k (endKey a) [])
 counted-listed k (a ∷ b ∷ p) =
     omega (arith, occ-cons k (childKey a b) (countedKeys (b ∷ p)), occ-cons k (endKey a) (childKey a b ∷ listedKeys (b ∷ p)), occ-cons k (childKey a b) (listedKeys (b ∷ p)), counted-listed k (b ∷ p))
 

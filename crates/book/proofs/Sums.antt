@@ -1,6 +1,6 @@
 -- How many rows there are at most (two for each step, less one for each path), how much one of them counts at most, and what they count together. Assumes nothing.
 use mathlib.Core.Path.{_≡_, refl, sym, ap, _∙_}
-use Prim.Native.Nat.{ℕ, zero, suc, _+_, _*_, _-_, _≤_}
+use Prim.Native.Nat.{ℕ, zero, suc, _+_, _*_, _≤_}
 use native.Mathlib.Omega.{arith}
 use mathlib.Core.List.{List, [], _∷_, map, flatMap}
 use mathlib.Core.Bool.{Bool, true, false, cond}
@@ -15,6 +15,7 @@ use Rattle.book.specs.Figures.{total, AllWhole}
 use Rattle.priors.proofs.Orders.{Side, below, same, above, side, Alike, alike, unlike, compared}
 use Rattle.book.proofs.StepLaws.{length-listed}
 use Rattle.book.proofs.Occurrences.{hit, occ-nil, occ-cons}
+use Rattle.book.proofs.Window.{window-drop}
 use Rattle.book.proofs.Membership.{In, in-head, in-tail}
 use Rattle.book.proofs.Image.{keys-rows}
 
@@ -88,9 +89,7 @@ module _ (f : Steps → ℕ) where
   total-drop (suc n) (p ∷ H) = omega (arith, total-drop n H)
 
   pub total-window : (W : ℕ) (H : List Steps) → total f (windowPart W H) ≤ total f H
-  unfolding windowPart
-  total-window zero H = omega arith
-  total-window (suc w) H = total-drop (length H - suc w) H
+  total-window W H = let d = window-drop W H in rw (d .1) (total-drop (d .0) H)
 
 pub counted-small : (W : ℕ) (H : List Steps) (k : ℕ) → AllWhole H → counted W H k ≤ 64 * length H
 unfolding counted

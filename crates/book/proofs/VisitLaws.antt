@@ -21,7 +21,7 @@ use Rattle.book.proofs.Window.{counted-le}
 use Rattle.book.proofs.Image.{ascends-listing}
 use Rattle.book.proofs.Membership.{In, once, listing-in}
 use Rattle.book.proofs.Sums.{counted-steps, total-window, tested, tested-once, sum-once}
-use Rattle.book.proofs.Meaning.{occ-total, ranks-window, nowhere, total-above}
+use Rattle.book.proofs.Meaning.{ranks-window, stands-total, nowhere, total-above}
 use Rattle.book.proofs.ListingForm.{node-end, node-child}
 
 -- ---- one path, and paths
@@ -103,7 +103,7 @@ module _ (W : ℕ) (H : List Steps) where
         ∙ tested-once (λ k. eqb a (nodeOf k)) (listing H) keys counted-once
         ∙ node-tested a keys
         ∙ ap (occurrences a) (nodes-all (windowPart W H) ranks′)
-        ∙ occ-total a (λ (p : Steps). p) (occurrences a) (λ p h. refl) (windowPart W H) ranks′
+        ∙ stands-total a (windowPart W H) ranks′
         ∙ sym (visits-are W H a)
 
     -- 0 exactly where no path of the window part holds it

@@ -59,11 +59,16 @@ counted-step W H p k =
     let whole : occurrences k (flatMap countedKeys (left (leavingPath W H) ++ windowPart W (H ++ p ∷ []))) ≡ occurrences k (flatMap countedKeys (windowPart W H ++ p ∷ [])) = rw window-step in
     omega (arith, occ-paths countedKeys k (left (leavingPath W H)) (windowPart W (H ++ p ∷ [])), occ-paths countedKeys k (windowPart W H) (p ∷ []), occ-one countedKeys k p, left-keys k (leavingPath W H))
 
+-- the window part is H without its first paths, all but the last W
+pub window-drop : (W : ℕ) (H : List Steps) → (n : ℕ) × (windowPart W H ≡ drop n H)
+unfolding windowPart
+window-drop zero H = (0, refl)
+window-drop (suc w) H = (length H - suc w, refl)
+
 -- what the window part counts is listed
 pub counted-le : (W : ℕ) (H : List Steps) (k : ℕ) → counted W H k ≤ occurrences k (flatMap listedKeys H)
-unfolding counted windowPart
-counted-le zero H k = counted-listed-all k H
-counted-le (suc w) H k = omega (arith, occ-drop countedKeys k (length H - suc w) H, counted-listed-all k H)
+unfolding counted
+counted-le W H k = let d = window-drop W H in rw (d .1) (omega (arith, occ-drop countedKeys k (d .0) H, counted-listed-all k H))
 
 -- ---- the sequence length, from the window and the number of paths
 

@@ -15,7 +15,7 @@ use Rattle.book.specs.Figures.{total, transitions, endings, Ranks, AllRanks}
 use Rattle.book.proofs.KeyLaws.{key-child, key-parts, child-lt}
 use Rattle.book.proofs.Occurrences.{occ-nil, occ-cons, occ-append}
 use Rattle.book.proofs.Image.{ascends-listing}
-use Rattle.book.proofs.Meaning.{ends-listed, ends-counted, child-listed, child-counted, occ-total, ranks-window}
+use Rattle.book.proofs.Meaning.{ends-listed, ends-counted, child-listed, child-counted, occ-total, ranks-window, stands-total}
 use Rattle.book.proofs.Membership.{In, in-tail, in-head, in-cons, in-append, in-none, enterAll-in, in-listing, listing-in}
 use Rattle.book.proofs.ListingForm.{node-end, kind-end, kind-child, listed-sort}
 use Rattle.divergence.specs.Nodes.{Node, spread, listedNodes}
@@ -80,9 +80,6 @@ module _ (a b : ℕ) where
 -- ---- the listing, node by node
 
 module _ (H : List Steps) (ranks : AllRanks H) where
-  pub stands-total : (a : ℕ) → occurrences a (flatMap (λ (p : Steps). p) H) ≡ total (occurrences a) H
-  stands-total a = occ-total a (λ (p : Steps). p) (occurrences a) (λ p h. refl) H ranks
-
   abbrev children : ℕ → List ℕ
   children a = childrenListed a H
 
@@ -92,7 +89,7 @@ module _ (H : List Steps) (ranks : AllRanks H) where
 
   -- an ending is listed as often as its node stands in the paths, a child as often as it follows
   ends-all : (a : ℕ) → occurrences (endKey a) (flatMap listedKeys H) ≡ occurrences a (flatMap (λ (p : Steps). p) H)
-  ends-all a = occ-total (endKey a) listedKeys (occurrences a) (ends-listed a) H ranks ∙ sym (stands-total a)
+  ends-all a = occ-total (endKey a) listedKeys (occurrences a) (ends-listed a) H ranks ∙ sym (stands-total a H ranks)
 
   children-all : (a b : ℕ) → b < 2 ^ 64 → occurrences (childKey a b) (flatMap listedKeys H) ≡ occurrences b (flatMap (followers a) H)
   children-all a b r =

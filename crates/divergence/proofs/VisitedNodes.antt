@@ -1,5 +1,5 @@
--- What goes in comes out, for readings: a listed node has evidence, and its total is the node's visits. Its children count the steps that follow it in the window part, each under
--- one row, and a step of a path is followed or is its end. Assumes nothing.
+-- What goes in comes out, for readings: a listed node has evidence, and its total is the node's visits. Its children count the steps that follow it in the window part,
+-- each under one row, and a step of a path is followed or is its end. Assumes nothing.
 use mathlib.Core.Path.{_≡_, refl, sym, ap, _∙_}
 use mathlib.Core.Logic.{⊎-elim}
 use Prim.Native.Nat.{ℕ, _+_}
@@ -19,13 +19,13 @@ use Rattle.book.specs.Figures.{total, transitions, endings, AllRanks, Somewhere
 use Rattle.book.specs.Visits.{visits}
 use Rattle.priors.proofs.Orders.{Alike, alike, unlike, compared}
 use Rattle.book.proofs.Sums.{length-total, total-window, sum-once}
-use Rattle.book.proofs.Meaning.{ranks-window, somewhere, total-above}
+use Rattle.book.proofs.Meaning.{ranks-window, stands-total, somewhere, total-above}
 use Rattle.book.proofs.Membership.{In, in-head, in-tail, in-cons, in-none, once, enterAll-in}
 use Rattle.book.proofs.VisitLaws.{departures, goes-out, total-both, visits-are}
 use Rattle.divergence.specs.Nodes.{evidenceOf}
 use Rattle.divergence.specs.RecountNodes.{followers, childrenListed, nodeCounted, nodesListed, recountNodes}
 use Rattle.divergence.proofs.AscentLaws.{in-entered, ascends-entered}
-use Rattle.divergence.proofs.RecountNodeLaws.{followers-total, stands-total}
+use Rattle.divergence.proofs.RecountNodeLaws.{followers-total}
 
 -- ---- the steps that follow
 
@@ -78,9 +78,9 @@ module _ (W : ℕ) (H : List Steps) (ranks : AllRanks H) (a : ℕ) where
   pub evidence-visits : Somewhere (occurrences a) H → Option·map Priors.total (evidenceOf a (recountNodes W H)) ≡ some (visits W H a)
   unfolding recountNodes nodesListed
   evidence-visits s =
-      ap (Option·map Priors.total) (evidence-some (nodesListed H) (enterAll-in a (flatMap (λ (p : Steps). p) H) [] (omega (arith, stands-total H ranks a, total-above (occurrences a) H (s .0) (s .1), s .2))))
+      ap (Option·map Priors.total) (evidence-some (nodesListed H) (enterAll-in a (flatMap (λ (p : Steps). p) H) [] (omega (arith, stands-total a H ranks, total-above (occurrences a) H (s .0) (s .1), s .2))))
       ∙ ap some node-visits
 
   pub evidence-missing : (Somewhere (occurrences a) H → ⊥) → evidenceOf a (recountNodes W H) ≡ none
   unfolding recountNodes nodesListed
-  evidence-missing o = evidence-none (nodesListed H) (λ i. o (somewhere (occurrences a) H (omega (arith, stands-total H ranks a, in-entered a (flatMap (λ (p : Steps). p) H) i))))
+  evidence-missing o = evidence-none (nodesListed H) (λ i. o (somewhere (occurrences a) H (omega (arith, stands-total a H ranks, in-entered a (flatMap (λ (p : Steps). p) H) i))))
