@@ -18,8 +18,8 @@ const WITH_GOKO: &str = "calls held against goko that find a prior by point alon
 const PAST_32_BITS: &str = "calls not compared with goko, whose index of a layer leaves 32 bits";
 
 /// What is to be met without goko and with it.
-const MET: [&str; 7] = [BY_POINT, SHARED, KEPT_APART, NAMED, CLASHES, TRAININGS, TRAINING_CLASHES];
-const MET_WITH_GOKO: [&str; 2] = [WITH_GOKO, PAST_32_BITS];
+pub const MET: [&str; 7] = [BY_POINT, SHARED, KEPT_APART, NAMED, CLASHES, TRAININGS, TRAINING_CLASHES];
+pub const MET_WITH_GOKO: [&str; 2] = [WITH_GOKO, PAST_32_BITS];
 
 impl Met {
     /// Counts a reading of `tracker` that was lent `priors`.
@@ -56,11 +56,6 @@ impl Met {
         self.count(WITH_GOKO, comparable && with_floor(priors).is_some_and(found));
         comparable
     }
-}
-
-/// All that is to be met, as far as goko's sources are there.
-pub fn to_be_met() -> impl Iterator<Item = &'static str> {
-    MET.into_iter().chain(MET_WITH_GOKO.into_iter().filter(|_| oracle::PRESENT))
 }
 
 /// Priors that are not refused, where some scale is below their floor.

@@ -10,6 +10,9 @@ const MISSED_BY_GOKO: &str = "children that goko does not find either";
 const NO_PRIOR_IN_GOKO: &str = "look-ups under a node for which goko has no prior either";
 const PAST_32_BITS: &str = "look-ups not compared with goko, whose index of a layer leaves 32 bits";
 
+/// What is to be met with goko, beside what `shown` names.
+pub const MET_WITH_GOKO: [&str; 4] = [FOUND_BY_GOKO, MISSED_BY_GOKO, NO_PRIOR_IN_GOKO, PAST_32_BITS];
+
 impl Met {
     /// Counts a look-up in priors of which 3 to 7 and 22 say `checked`.
     pub fn looked_up(&mut self, checked: &Result<Priors, Refusal>, node: Address, child: Address) {
@@ -30,10 +33,4 @@ impl Met {
         self.count(MISSED_BY_GOKO, prior && !child);
         self.count(FOUND_BY_GOKO, child);
     }
-}
-
-/// All that is to be met, as far as goko's sources are there.
-pub fn to_be_met() -> impl Iterator<Item = &'static str> {
-    let with_goko = [FOUND_BY_GOKO, MISSED_BY_GOKO, NO_PRIOR_IN_GOKO, PAST_32_BITS];
-    shown::all().chain(with_goko.into_iter().filter(|_| oracle::PRESENT))
 }

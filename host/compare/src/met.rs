@@ -1,7 +1,22 @@
 //! How often each of the things was met that a run is to meet: what `floors`, `lookups` and `visited` name.
 
 use crate::{floors, lookups, visited};
+use cases::shown;
 use std::collections::BTreeMap;
+
+type Kinds = Vec<&'static str>;
+
+/// What is to be met, as far as goko's sources are there, by what it is of.
+fn to_be_met() -> [(&'static str, Kinds); 3] {
+    let kinds = |met: Kinds, with_goko: &[&'static str]| -> Kinds {
+        met.into_iter().chain(with_goko.iter().copied().filter(|_| oracle::PRESENT)).collect()
+    };
+    [
+        ("with floors", kinds(floors::MET.to_vec(), &floors::MET_WITH_GOKO)),
+        ("of child look-ups", kinds(shown::all().collect(), &lookups::MET_WITH_GOKO)),
+        ("of visits", kinds(visited::MET.to_vec(), &visited::MET_WITH_GOKO)),
+    ]
+}
 
 /// The numbers.
 #[derive(Debug, Default)]
@@ -24,18 +39,16 @@ impl Met {
 
     /// Prints how often each was met.
     pub fn print(&self) {
-        println!("with floors:");
-        floors::to_be_met().for_each(|what| println!("  {} {}", self.met(what), what));
-        println!("of child look-ups:");
-        lookups::to_be_met().for_each(|what| println!("  {} {}", self.met(what), what));
-        println!("of visits:");
-        visited::to_be_met().for_each(|what| println!("  {} {}", self.met(what), what));
+        for (of, kinds) in to_be_met() {
+            println!("{}:", of);
+            kinds.iter().for_each(|what| println!("  {} {}", self.met(what), what));
+        }
     }
 
     /// What was not met at all.
     pub fn missing(&self) -> Vec<&'static str> {
-        let to_be_met = floors::to_be_met().chain(lookups::to_be_met()).chain(visited::to_be_met());
-        to_be_met.filter(|what| self.met(what) == 0).collect()
+        let kinds = to_be_met().into_iter().flat_map(|(_, kinds)| kinds);
+        kinds.filter(|what| self.met(what) == 0).collect()
     }
 
     fn met(&self, what: &str) -> u64 {

@@ -21,13 +21,8 @@ const WITH_GOKO: &str = "openings and adds after which goko's totals were held t
 const ZERO_IN_GOKO: &str = "adds among these after which a node's total is 0 in goko, too";
 
 /// What is to be met without goko and with it.
-const MET: [&str; 7] = [HELD, REFUSED, ANEW, TWICE, TO_ITSELF, ALL_LEFT, BEGAN];
-const MET_WITH_GOKO: [&str; 2] = [WITH_GOKO, ZERO_IN_GOKO];
-
-/// All that is to be met, as far as goko's sources are there.
-pub fn to_be_met() -> impl Iterator<Item = &'static str> {
-    MET.into_iter().chain(MET_WITH_GOKO.into_iter().filter(|_| oracle::PRESENT))
-}
+pub const MET: [&str; 7] = [HELD, REFUSED, ANEW, TWICE, TO_ITSELF, ALL_LEFT, BEGAN];
+pub const MET_WITH_GOKO: [&str; 2] = [WITH_GOKO, ZERO_IN_GOKO];
 
 /// A listed node and its evidence total.
 pub type Total = (Address, u64);
