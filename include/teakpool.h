@@ -114,8 +114,8 @@
 /* The version of this header; teakpool_version() tells that of the archive. CHANGELOG.md says what counts as a break. */
 #define TEAKPOOL_VERSION_MAJOR 0u
 #define TEAKPOOL_VERSION_MINOR 3u
-#define TEAKPOOL_VERSION_PATCH 1u
-#define TEAKPOOL_VERSION_STRING "0.3.1"
+#define TEAKPOOL_VERSION_PATCH 2u
+#define TEAKPOOL_VERSION_STRING "0.3.2"
 #define TEAKPOOL_VERSION (1000000u * TEAKPOOL_VERSION_MAJOR + 1000u * TEAKPOOL_VERSION_MINOR + TEAKPOOL_VERSION_PATCH)
 
 /* A call's answer is to be looked at, and none of its pointers is NULL. */
@@ -219,7 +219,15 @@ uint32_t teakpool_child(const uint8_t *nodes, size_t nodes_length, const uint8_t
                         int32_t scale, uint32_t point, int32_t child_scale, uint32_t child_point, uint32_t *count, uint32_t *read);
 
 /* Opens a tracker. Book and queue are zeroed to their ends, whatever they held; state becomes window, 0, 0. A window of 0 keeps
- * every path counted. After p accepted paths of s steps in all, at most 2s - p entries of the book are used.
+ * every path counted.
+ * How large a book must be: an entry for each different node and one for each different transition of the paths that are added after
+ * the opening, those that have left the window included. Nodes differ by exact address, whatever the floor; from a to b is another
+ * transition than from b to a. Of one or more accepted paths this is the least that serves: a book of exactly so many entries takes
+ * them in any order and with any window; in a smaller one that has an entry or more some path is answered 12, whatever their order.
+ * To size a book, add the paths of recorded days to one of 393,216 bytes and read the entries used, state[1]: it is that number.
+ * Paths that are answered 10 need no entry; where 12 comes, no book takes all of them. For a watch that goes on from day to day add
+ * all days after one opening; one that is opened anew each day needs the greatest number of any day. For p paths of s steps in all
+ * it is at most 2s - p. examples/c/memory.c sizes a book.
  * Limits: window 0 to 1,024; book_length a multiple of 24, 24 to 393,216; queue_length at least 516 x window.
  * Refused: 8 for the window; 9 for book_length or queue_length. The state before a refused opening stands. */
 TEAKPOOL_CALL
@@ -292,7 +300,7 @@ uint32_t teakpool_kl_div_stats(const uint32_t state[3], const uint8_t *book, siz
  * is a length in `knots` and ten of `values`: for maximum, minimum, number, sum and sum of squares in turn, the sum over the
  * sequences and the sum of squares. Statistics with none above 1.0e-10 enter their -DBL_MAX and DBL_MAX too, and squares become
  * infinite, as in goko. count is the number of knots, n / rate rounded up; knots and values past it keep what they held. The book
- * may hold anything before, and is all zero afterwards.
+ * may hold anything before, and is all zero afterwards. It needs what teakpool_open says of the sequence that needs most.
  * Limits: s 1 to 64; n 0 to 65,536; rate at least 1; sequences_length exactly 516 x s x n; at most 1,024 knots; book_length a
  * multiple of 24, 24 to 393,216; knots_length at least the number of knots and values_length at least ten times that; the length of
  * each path 1 to 64.

@@ -21,7 +21,7 @@ use Rattle.book.specs.Recount.{enterAll, listing, counted, rowsOf, bookI
 use Rattle.book.specs.Figures.{AllRanks, AllWhole}
 use Rattle.book.proofs.EntryLaws.{InRange, AllInRange, length-bytesOf, rows-bytesOf}
 use Rattle.book.proofs.Passes.{FormedAfter, Formed}
-use Rattle.book.proofs.ManyRows.{keys-touches}
+use Rattle.book.proofs.ManyRows.{keys-touches, enterAll-append}
 use Rattle.book.proofs.Image.{keys-rows}
 use Rattle.book.proofs.Sums.{counted-small}
 use Rattle.book.proofs.Membership.{In, in-head, in-tail}
@@ -33,11 +33,6 @@ use Rattle.book.proofs.DryRun.{length-touched}
 pub length-image : (W : ℕ) (H : List Steps) → length (rowsOf W H) ≡ length (listing H)
 unfolding rowsOf
 length-image W H = length-map (listing H) (λ k. row k (counted W H k))
-
-enterAll-append : (js ks xs : List ℕ) → enterAll (js ++ ks) xs ≡ enterAll ks (enterAll js xs)
-unfolding enterAll
-enterAll-append [] ks xs = refl
-enterAll-append (j ∷ js) ks xs = enterAll-append js ks _
 
 flatMap-snoc : (f : Steps → List ℕ) (H : List Steps) (p : Steps) → flatMap f (H ++ p ∷ []) ≡ flatMap f H ++ f p
 unfolding flatMap
@@ -57,6 +52,10 @@ length-listing W H p =
 -- no row goes away
 pub listing-grows : (W : ℕ) (H : List Steps) (p : Steps) → length (listing H) ≤ length (listing (H ++ p ∷ []))
 listing-grows W H p = omega (arith, length-image W H, length-listing W H p, length-touched (listedKeys p) (rowsOf W H))
+
+pub listings-grow : (G H : List Steps) → length (listing G) ≤ length (listing (G ++ H))
+listings-grow G [] = rw append-nil (omega arith)
+listings-grow G (p ∷ H) = rw (← append-assoc G (p ∷ []) H) (omega (arith, listing-grows 0 G p, listings-grow (G ++ p ∷ []) H))
 
 pub length-book : (W : ℕ) (H : List Steps) (size : ℕ) → 24 * length (listing H) ≤ size → length (bookImage W H size) ≡ size
 unfolding bookImage

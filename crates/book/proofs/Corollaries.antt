@@ -18,11 +18,10 @@ use Rattle.book.specs.Figures.{total, transitions, endings, Listed}
 use Rattle.book.specs.Claims.{BookCall, opening, add, runs, bookStep, Recount, openRefusal, addRefusal, restarted, joined, recountStep, image}
 use Rattle.book.specs.Corollaries.{acceptedSince, windowSince, HasRow, Told, OpeningStartsAfresh, RefusedOpeningLeavesAll, RefusedAddLeavesAll, FormReadsNoOther}
 use Rattle.book.proofs.Passes.{found}
-use Rattle.book.proofs.Sums.{length-rows}
 use Rattle.book.proofs.Meaning.{look-ending, look-child, node-listed, child-listed-iff}
 use Rattle.book.proofs.VisitLaws.{all-counts, total-visits, total-none, never-visited}
 use Rattle.book.proofs.Image.{ascends-rows}
-use Rattle.book.proofs.BookImage.{length-image}
+use Rattle.book.proofs.LeastLaws.{listing-least, least-le}
 use Rattle.book.proofs.Kept.{Kept}
 use Rattle.book.proofs.FormLaws.{form-reads}
 use Rattle.book.proofs.FormImage.{rows-are}
@@ -94,7 +93,8 @@ told r k = record {
   transition-count = λ a b h c e. found-is (total (transitions a b) H) (total (transitions a b) (windowPart W H)) c (sym (look-child W H (k .ranks) a b h) ∙ exact W H (childKey a b) ∙ (rw (rows-are r k) at e));
   node-listed = λ a. rw (rows-are r k) (exactly W H (endKey a) (node-listed W H (k .ranks) a));
   ending-count = λ a c e. found-is (total (occurrences a) H) (total (endings a) (windowPart W H)) c (sym (look-ending W H (k .ranks) a) ∙ exact W H (endKey a) ∙ (rw (rows-are r k) at e));
-  used-le = omega (arith, length-rows W H (k .whole), length-image W H);
+  used-least = listing-least H (k .ranks);
+  used-le = omega (arith, listing-least H (k .ranks), least-le H (k .whole));
   total-visits = λ a. rw (rows-are r k) (total-visits W H (k .ranks) a);
   total-none = λ a. rw (rows-are r k) (total-none W H (k .ranks) a);
   unlisted = λ a h. never-visited W H a (λ s. h (rw (rows-are r k) (exactly W H (endKey a) (node-listed W H (k .ranks) a) .1 s)));

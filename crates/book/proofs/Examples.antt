@@ -11,10 +11,11 @@ use Rattle.book.specs.Entries.{keyAt, rowAt, rows, rowBytes, bytesOf}
 use Rattle.book.specs.Path.{Steps, stepsOf, wholePath, listedKeys, countedKeys}
 use Rattle.book.specs.Form.{bookFits, queueFits, plain, follows, formedAfter, formed, lengthsFit, stateFits, inForm}
 use Rattle.book.specs.Changes.{changeAll, addRows}
-use Rattle.book.specs.Calls.{BookAnswer, fresh, openNumber, openState, openBook, openQueue, leaving, addNumber, rowsAfter, addState, stateAfter, addBook, bookAfter, placeBytes, queueWith, addQueue}
+use Rattle.book.specs.Calls.{fresh, openNumber, openState, openBook, openQueue, leaving, addNumber, rowsAfter, addState, stateAfter, addBook, bookAfter, placeBytes, queueWith, addQueue}
 use Rattle.book.specs.Recount.{windowPart, enter, enterAll, listing}
 use Rattle.book.specs.Figures.{total}
 use Rattle.book.specs.Visits.{arrivals, beginnings, visits, evidenceTotal}
+use Rattle.book.specs.Memory.{among, different, pairs, least, numbers}
 use Rattle.book.specs.Claims.{BookCall, opening, add, runs, Machine, bookStep, recountStep, openRefusal, addRefusal, restarted}
 use Rattle.book.specs.Corollaries.{acceptedSince, entriesOf}
 
@@ -36,9 +37,6 @@ calls =
     ∷ opening 1025 [] []
     ∷ opening 1 (replicate 72 5) (replicate 515 5)
     ∷ []
-
-abbrev numbers : List BookAnswer → List ℕ
-numbers = map (λ (a : BookAnswer). a .number)
 
 recount-numbers : numbers (runs recountStep (restarted 0 0 0) calls .0) ≡ 0 ∷ 12 ∷ 0 ∷ 0 ∷ 0 ∷ 10 ∷ 8 ∷ 9 ∷ []
 unfolding runs recountStep openRefusal addRefusal listing enterAll enter flatMap listedKeys stepsOf word rank lift endKey childKey keyOf
@@ -81,3 +79,16 @@ visits-again = refl
 totals-left : map (λ a. evidenceTotal a (entriesOf (runs bookStep before calls .1))) (rank 1 7 ∷ rank 0 9 ∷ []) ≡ 1 ∷ 0 ∷ []
 unfolding evidenceTotal nodeOf endKey childKey keyOf rank lift
 totals-left = rw entries-left
+
+-- two nodes and the transition between them; there and back are two transitions, and from a node to itself is one, however often
+least-taken : least taken ≡ 3
+unfolding least different among pairs flatMap rank lift
+least-taken = refl
+
+least-back : least ((1 ∷ 2 ∷ 1 ∷ []) ∷ (2 ∷ 1 ∷ []) ∷ []) ≡ 4
+unfolding least different among pairs flatMap
+least-back = refl
+
+least-itself : least ((1 ∷ 1 ∷ 1 ∷ []) ∷ (1 ∷ []) ∷ []) ≡ 2
+unfolding least different among pairs flatMap
+least-itself = refl

@@ -13,7 +13,7 @@ use Rattle.book.specs.Recount.{occurrences, listing, counted, rowsOf}
 use Rattle.priors.proofs.Orders.{Side, below, same, above, side}
 use Rattle.priors.proofs.RowLaws.{afterTouch, afterBump, afterFade}
 use Rattle.book.proofs.Passes.{found}
-use Rattle.book.proofs.ManyRows.{times, look-all, ascends-all, keys-touches}
+use Rattle.book.proofs.ManyRows.{times, look-all, keys-touches, ascends-entered}
 
 -- ---- what many changes make of what a look-up found
 
@@ -75,7 +75,8 @@ unfolding rowsOf
 keys-rows W H = map-map _ _ (listing H) ∙ map-id (listing H)
 
 pub ascends-listing : (H : List Steps) → Ascends 0 (listing H)
-ascends-listing H = rw (listing-touched H) (ascends-all (some 0) (λ c. c) (flatMap listedKeys H) [] tt)
+unfolding listing
+ascends-listing H = ascends-entered (flatMap listedKeys H)
 
 pub ascends-rows : (W : ℕ) (H : List Steps) → Ascends 0 (keys (rowsOf W H))
 ascends-rows W H = rw keys-rows (ascends-listing H)

@@ -11,6 +11,8 @@ pub mod Sums
 pub mod Meaning
 pub mod ListingForm
 pub mod VisitLaws
+pub mod Different
+pub mod LeastLaws
 -- what code needs besides, one pass over a path and the number of rows that would come in:
 pub mod OnePass
 pub mod Loops
@@ -44,5 +46,6 @@ pub mod FormImage
 pub mod Simulation
 pub mod Claimed
 pub mod Corollaries
+pub mod MemoryLaws
 -- the definitions on small numbers:
 pub mod Examples

@@ -1,7 +1,8 @@
--- What many changes leave: a look-up for j finds what it found, changed as often as j stands in the list of keys. Assumes nothing.
+-- What many changes leave: a look-up for j finds what it found, changed as often as j stands in the list of keys; and touching keys enters them, ascending. Assumes
+-- nothing.
 use mathlib.Core.Path.{_≡_, refl, ap, _∙_}
 use Prim.Native.Nat.{ℕ, zero, suc, zero-le}
-use mathlib.Core.List.{List, [], _∷_}
+use mathlib.Core.List.{List, [], _∷_, _++_}
 use mathlib.Core.Option.{Option}
 use mathlib.Core.Bool.{Bool, true, false, cond}
 use lib.Dec.{eqb}
@@ -39,7 +40,7 @@ module _ (new : Option ℕ) (step : ℕ → ℕ) where
 
 -- ---- touching enters the key
 
-pub keys-touch : (k : ℕ) (rs : List Row) → keys (touch k rs) ≡ enter k (keys rs)
+keys-touch : (k : ℕ) (rs : List Row) → keys (touch k rs) ≡ enter k (keys rs)
 unfolding change enter
 keys-touch k [] = refl
 keys-touch k (r ∷ rs) = go (side k (r .key)) (keys-touch k rs)
@@ -53,3 +54,12 @@ pub keys-touches : (ks : List ℕ) (rs : List Row) → keys (touchAll ks rs) ≡
 unfolding changeAll enterAll
 keys-touches [] rs = refl
 keys-touches (k ∷ ks) rs = keys-touches ks (touch k rs) ∙ ap (enterAll ks) (keys-touch k rs)
+
+pub enterAll-append : (js ks xs : List ℕ) → enterAll (js ++ ks) xs ≡ enterAll ks (enterAll js xs)
+unfolding enterAll
+enterAll-append [] ks xs = refl
+enterAll-append (j ∷ js) ks xs = enterAll-append js ks _
+
+-- what is entered into an empty list ascends
+pub ascends-entered : (ks : List ℕ) → Ascends 0 (enterAll ks [])
+ascends-entered ks = rw (← keys-touches ks []) (ascends-all _ _ ks [] tt)

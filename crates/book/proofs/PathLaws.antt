@@ -1,11 +1,12 @@
 -- Paths as bytes and as lists of ranks: lengths, ranges, and both round trips. Assumes nothing.
 use mathlib.Core.Path.{_≡_, refl, sym, ap, ap₂, _∙_}
-use Prim.Native.Nat.{ℕ, zero, suc, _+_, _-_, _*_, _/_, _%_, _≤_, _<_}
+use Prim.Native.Nat.{ℕ, zero, suc, _+_, _-_, _*_, _/_, _%_, _^_, _≤_, _<_}
 use native.Mathlib.Omega.{arith}
 use mathlib.Core.List.{List, [], _∷_, _++_, flatMap, append-assoc, append-nil}
 use lib.ListN.{length, drop, length-append, length-drop}
 use lib.Seq.{drop-drop, drop-length, getD-drop}
-use Rattle.priors.specs.Address.{addressBytes, rankAt}
+use Rattle.priors.specs.Word.{wordBytes}
+use Rattle.priors.specs.Address.{lift, addressBytes, rankAt}
 use Rattle.book.specs.Path.{Steps, stepsOf, pathOf, stepBytes}
 use Rattle.book.specs.Figures.{All, Ranks}
 use Rattle.priors.proofs.Ranks.{Bytes, rankAt-lt, rank-bytes, rank-forth}
@@ -19,6 +20,14 @@ all-bytes (b ∷ s) h (suc i) = all-bytes s (h .1) i
 
 pub bytes-drop : (n : ℕ) (s : List ℕ) → Bytes s → Bytes (drop n s)
 bytes-drop n s bytes i = rw (getD-drop n s i 0) (bytes (n + i))
+
+word-in-bytes : (v : ℕ) (s : List ℕ) → All (λ b. b < 256) s → All (λ b. b < 256) (wordBytes v ++ s)
+word-in-bytes v s h = (omega arith, (omega arith, (omega arith, (omega arith, h))))
+
+pub steps-in-bytes : (p : Steps) → All (λ b. b < 256) (stepBytes p)
+unfolding flatMap
+steps-in-bytes [] = tt
+steps-in-bytes (a ∷ p) = word-in-bytes (lift (a / 2 ^ 32)) (wordBytes (a % 2 ^ 32) ++ stepBytes p) (word-in-bytes (a % 2 ^ 32) (stepBytes p) (steps-in-bytes p))
 
 -- ---- lengths and ranges
 
@@ -67,3 +76,8 @@ path-forth s bytes h =
     let all : 8 * (length s / 8) ≡ length s = omega arith in
     let none : drop (8 * (length s / 8)) s ≡ [] = ap (λ (k : ℕ). drop k s) all ∙ drop-length s in
     sym (append-nil (stepBytes (pathOf s))) ∙ ap (λ (l : List ℕ). stepBytes (pathOf s) ++ l) (sym none) ∙ steps-forth s bytes (length s / 8) (omega arith)
+
+pub path-back : (p : Steps) → Ranks p → pathOf (stepBytes p) ≡ p
+path-back p h =
+    let n : length (stepBytes p) / 8 ≡ length p = omega (arith, length-stepBytes p) in
+    ap (stepsOf (stepBytes p)) n ∙ ap (λ (s : List ℕ). stepsOf s (length p)) (sym (append-nil (stepBytes p))) ∙ steps-back p [] h

@@ -1,34 +1,32 @@
--- How many rows there are at most (two for each step, less one for each path), how much one of them counts at most, and what they count together. Assumes nothing.
+-- How much a row counts at most, and what rows count together. Assumes nothing.
 use mathlib.Core.Path.{_≡_, refl, sym, ap, _∙_}
 use Prim.Native.Nat.{ℕ, zero, suc, _+_, _*_, _≤_}
 use native.Mathlib.Omega.{arith}
 use mathlib.Core.List.{List, [], _∷_, map, flatMap}
 use mathlib.Core.Bool.{Bool, true, false, cond}
 use lib.Dec.{eqb}
-use lib.ListN.{length, drop, length-append, length-map}
+use lib.ListN.{length, drop, length-append}
 use borrow.Author.Tests.{ne-eqb}
-use Rattle.priors.specs.Rows.{Row, row}
+use Rattle.priors.specs.Rows.{row}
 use Rattle.priors.specs.Priors.{countSum}
-use Rattle.book.specs.Path.{Steps, listedKeys, countedKeys}
-use Rattle.book.specs.Recount.{occurrences, windowPart, counted, rowsOf, enter, enterAll, listing}
+use Rattle.book.specs.Path.{Steps, countedKeys}
+use Rattle.book.specs.Recount.{occurrences, windowPart, counted}
 use Rattle.book.specs.Figures.{total, AllWhole}
-use Rattle.priors.proofs.Orders.{Side, below, same, above, side, Alike, alike, unlike, compared}
-use Rattle.book.proofs.StepLaws.{length-listed}
+use Rattle.priors.proofs.Orders.{Alike, alike, unlike, compared}
 use Rattle.book.proofs.Occurrences.{hit, occ-nil, occ-cons}
 use Rattle.book.proofs.Window.{window-drop}
 use Rattle.book.proofs.Membership.{In, in-head, in-tail}
-use Rattle.book.proofs.Image.{keys-rows}
 
 -- ---- lengths of a path's keys
 
-pub length-counted : (p : Steps) → length (countedKeys p) ≡ length p
+length-counted : (p : Steps) → length (countedKeys p) ≡ length p
 unfolding countedKeys
 length-counted [] = refl
 length-counted (a ∷ []) = refl
 length-counted (a ∷ b ∷ p) = ap suc (length-counted (b ∷ p))
 
 -- a figure of each path for the number of its keys
-pub length-total : (f : Steps → List ℕ) (g : Steps → ℕ) → ((p : Steps) → length (f p) ≡ g p) → (H : List Steps) → length (flatMap f H) ≡ total g H
+pub length-total : {X : Type 0} (f : Steps → List X) (g : Steps → ℕ) → ((p : Steps) → length (f p) ≡ g p) → (H : List Steps) → length (flatMap f H) ≡ total g H
 unfolding flatMap total
 length-total f g e [] = refl
 length-total f g e (p ∷ H) = omega (arith, length-append (f p) (flatMap f H), e p, length-total f g e H)
@@ -36,35 +34,7 @@ length-total f g e (p ∷ H) = omega (arith, length-append (f p) (flatMap f H), 
 pub counted-steps : (H : List Steps) → length (flatMap countedKeys H) ≡ total length H
 counted-steps = length-total countedKeys length length-counted
 
--- ---- how many rows: at most two for each step, less one for each path
-
-length-enter : (k : ℕ) (xs : List ℕ) → length (enter k xs) ≤ suc (length xs)
-unfolding enter
-length-enter k [] = omega arith
-length-enter k (x ∷ xs) = go (side k x) (length-enter k xs)
-  where
-    go : Side k x → length (enter k xs) ≤ suc (length xs) → length (enter k (x ∷ xs)) ≤ suc (suc (length xs))
-    go (below l e) ih = rw e (omega arith)
-    go (same q e) ih = rw e (omega arith)
-    go (above l e) ih = rw e (omega arith)
-
-length-enterAll : (ks xs : List ℕ) → length (enterAll ks xs) ≤ length ks + length xs
-unfolding enterAll
-length-enterAll [] xs = omega arith
-length-enterAll (k ∷ ks) xs = omega (arith, length-enterAll ks (enter k xs), length-enter k xs)
-
-listed-total : (H : List Steps) → AllWhole H → length (flatMap listedKeys H) + length H ≡ 2 * total length H
-unfolding flatMap total
-listed-total [] h = refl
-listed-total (p ∷ H) h = omega (arith, length-append (listedKeys p) (flatMap listedKeys H), length-listed p (h .0 .0), listed-total H (h .1))
-
-pub length-rows : (W : ℕ) (H : List Steps) → AllWhole H → length (rowsOf W H) + length H ≤ 2 * total length H
-unfolding listing
-length-rows W H h =
-    let n : length (rowsOf W H) ≡ length (listing H) = sym (length-map (rowsOf W H) (λ (r : Row). r .key)) ∙ ap length (keys-rows W H) in
-    omega (arith, length-enterAll (flatMap listedKeys H) [], listed-total H h)
-
--- ---- what one of them counts: at most 64 for each path
+-- ---- what a row counts: at most 64 for each path
 
 occ-length : (k : ℕ) (ks : List ℕ) → occurrences k ks ≤ length ks
 unfolding occurrences

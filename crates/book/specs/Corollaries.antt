@@ -20,6 +20,7 @@ use Rattle.book.specs.Calls.{BookAnswer, zeros, unlessRefused, fresh, op
 use Rattle.book.specs.Recount.{occurrences, windowPart}
 use Rattle.book.specs.Figures.{total, transitions, endings, Somewhere}
 use Rattle.book.specs.Visits.{visits, evidenceTotal}
+use Rattle.book.specs.Memory.{least}
 use Rattle.book.specs.Claims.{BookCall, opening, add, Machine, bookStep}
 
 -- ---- what was accepted, told from calls and answers
@@ -57,6 +58,8 @@ pub record Told (m : Machine) (W : ℕ) (H : List Steps) : Type 0 where
   pub node-listed : (node : ℕ) → HasRow (endKey node) (entriesOf m) ↔ Somewhere (occurrences node) H
   -- the ending's count is how many paths of the window part end there
   pub ending-count : (node c : ℕ) → countOf (endKey node) (entriesOf m) ≡ some c → c ≡ total (endings node) (windowPart W H)
+  -- as many entries are used as H has different nodes and different transitions
+  pub used-least : m .state .used ≡ least H
   -- of the paths of H, p in number and of s steps in all, at most 2s - p entries are used
   pub used-le : m .state .used + length H ≤ 2 * total length H
   -- a node's evidence total is its visits, listed or not

@@ -1,5 +1,4 @@
--- Ascending lists: two with the same members are equal; and the keys of nodes and their children, node by node, ascend as the nodes and the children do.
--- Assumes nothing.
+-- What stands in a list made of another, and that the keys of nodes and their children, node by node, ascend as the nodes and the children do. Assumes nothing.
 use mathlib.Core.Path.{_≡_, refl, ap}
 use mathlib.Core.Logic.{⊎-elim}
 use Prim.Native.Nat.{ℕ, suc, _^_, _≤_, _<_, zero-le}
@@ -7,12 +6,9 @@ use native.Mathlib.Omega.{arith}
 use mathlib.Core.List.{List, [], _∷_, _++_, map, flatMap}
 use Rattle.priors.specs.Rows.{Ascends}
 use Rattle.priors.specs.Address.{lift, rank}
-use Rattle.priors.proofs.Orders.{Side, below, same, above, side}
 use Rattle.priors.proofs.RowLaws.{ascends-from}
 use Rattle.book.specs.Keys.{keyOf, endKey, childKey}
-use Rattle.book.specs.Recount.{enterAll}
-use Rattle.book.proofs.ManyRows.{ascends-all, keys-touches}
-use Rattle.book.proofs.Membership.{In, in-tail, in-head, in-cons, in-append, in-left, in-right, in-none, in-above, in-enterAll}
+use Rattle.book.proofs.Membership.{In, in-tail, in-head, in-cons, in-append, in-left, in-right, in-none}
 
 -- ---- members
 
@@ -34,32 +30,6 @@ unfolding flatMap
 each-in f k x [] h i = in-none x h
 each-in f k x (y ∷ xs) h i =
     ⊎-elim (λ q. in-left k (f y) (flatMap f xs) (rw q at i)) (λ m. in-right k (f y) (flatMap f xs) (each-in f k x xs m i)) (in-cons x y xs h)
-
--- each once, ascending: what is entered into an empty list
-pub in-entered : (k : ℕ) (ks : List ℕ) → In k (enterAll ks []) → In k ks
-in-entered k ks h = ⊎-elim (λ i. i) (λ i. in-none k i) (in-enterAll k ks [] h)
-
-pub ascends-entered : (ks : List ℕ) → Ascends 0 (enterAll ks [])
-ascends-entered ks = rw (← keys-touches ks []) (ascends-all _ _ ks [] tt)
-
--- ---- two ascending lists with the same members are equal
-
-pub same-members : (a : ℕ) (xs ys : List ℕ) → Ascends a xs → Ascends a ys → ((k : ℕ) → In k xs → In k ys) → ((k : ℕ) → In k ys → In k xs) → xs ≡ ys
-same-members a [] [] p q f g = refl
-same-members a [] (y ∷ ys) p q f g = in-none y (g y (in-head y y ys refl))
-same-members a (x ∷ xs) [] p q f g = in-none x (f x (in-head x x xs refl))
-same-members a (x ∷ xs) (y ∷ ys) p q f g = go (side x y) (same-members (suc x) xs ys (p .1))
-  where
-    go : Side x y → (Ascends (suc x) ys → ((k : ℕ) → In k xs → In k ys) → ((k : ℕ) → In k ys → In k xs) → xs ≡ ys) → x ∷ xs ≡ y ∷ ys
-    go (below l e) ih = absurd (omega (arith, in-above y x (y ∷ ys) (omega arith, q .1) (f x (in-head x x xs refl))))
-    go (above l e) ih = absurd (omega (arith, in-above x y (x ∷ xs) (omega arith, p .1) (g y (in-head y y ys refl))))
-    go (same d e) ih = let rest : xs ≡ ys = ih (rw d (q .1)) there back in cc
-      where
-        there : (k : ℕ) → In k xs → In k ys
-        there k i = ⊎-elim (λ c. absurd (omega (arith, in-above (suc x) k xs (p .1) i))) (λ m. m) (in-cons k y ys (f k (in-tail k x xs i)))
-
-        back : (k : ℕ) → In k ys → In k xs
-        back k i = ⊎-elim (λ c. absurd (omega (arith, in-above (suc y) k ys (q .1) i))) (λ m. m) (in-cons k x xs (g k (in-tail k y ys i)))
 
 -- ---- the keys of nodes, node by node
 

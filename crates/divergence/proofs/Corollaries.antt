@@ -1,18 +1,24 @@
 -- The corollaries, proved: the claim says of which recount the machine is the image and which answers it gave, and without its readings a list of calls runs as its
 -- openings and adds do, of which W and H are read off. Assumes nothing.
 use mathlib.Core.Path.{_≡_, refl, sym, ap, _∙_}
-use Prim.Native.Nat.{ℕ}
+use Prim.Native.Nat.{ℕ, _≤_}
+use native.Mathlib.Omega.{arith}
 use mathlib.Core.List.{List, [], _∷_, _++_}
+use lib.ListN.{length}
 use Rattle.book.specs.Path.{Steps}
 use Rattle.book.specs.Calls.{BookAnswer}
+use Rattle.book.specs.Figures.{Whole, AllWhole, Ranks, AllRanks}
+use Rattle.book.specs.Memory.{least, adds, numbers}
 use Rattle.book.specs.Claims.{BookCall, opening, add, Machine, bookStep, Recount, restarted, recountStep, image, runs}
 use Rattle.book.specs.Corollaries.{acceptedSince, windowSince}
 use Rattle.book.proofs.Kept.{Kept}
 use Rattle.book.proofs.RefusalLaws.{open-number}
 use Rattle.book.proofs.Corollaries.{since-paths, since-window, add-not-nine, told as book-told}
+use Rattle.book.proofs.LeastLaws.{listing-least, needs-some, order-length, order-all, order-least}
+use Rattle.book.proofs.MemoryLaws.{serves, lacks}
 use Rattle.divergence.specs.Asked.{Seen}
 use Rattle.divergence.specs.Claims.{called, ReadingCall, probVector, evidenceProbVector, posteriorKlDivergence, allNodeKl, klDivStats, Call, change, read, Answer, reading, step, recountSeen, recounted}
-use Rattle.divergence.specs.Corollaries.{changesOf, changedAnswers, WithoutReadings, NeverNine, TotalsAreVisits, Corollary}
+use Rattle.divergence.specs.Corollaries.{changesOf, changedAnswers, WithoutReadings, NeverNine, TotalsAreVisits, Corollary, Adds, numbersOf, MemoryToTheEntry}
 use Rattle.divergence.proofs.NumberLaws.{reading-not-nine}
 use Rattle.divergence.proofs.VisitedNodes.{evidence-visits, evidence-missing}
 use Rattle.divergence.proofs.Claimed.{nodes-are, read-answer, claim-kept}
@@ -54,6 +60,30 @@ never-nine r (change (opening w book queue) ∷ cs) = never-nine (recountStep r 
 never-nine r (change (add path) ∷ cs) = (add-not-nine r path, never-nine (recountStep r (add path) .1) cs)
 never-nine r (read c ∷ cs) = (reading-not-nine (r .window) (r .paths) c, never-nine r cs)
 
+-- ---- memory quoted to the entry
+
+-- readings leave no trace, so the calls are answered and leave what the opening and the adds by themselves do
+only-adds : (n : ℕ) (L : List Steps) (m : Machine) (cs : List Call) (a : Adds n L cs)
+    → (numbersOf m cs ≡ numbers (runs bookStep m (opening (a .window) (a .book) (a .queue) ∷ adds L) .0)) × (runs step m cs .1 ≡ runs bookStep m (opening (a .window) (a .book) (a .queue) ∷ adds L) .1)
+only-adds n L m cs a =
+    let plain = without-readings m cs in
+    (ap numbers (plain .0 ∙ ap (λ (bs : List BookCall). runs bookStep m bs .0) (a .changes)), plain .1 ∙ ap (λ (bs : List BookCall). runs bookStep m bs .1) (a .changes))
+
+pub memory-to-the-entry : MemoryToTheEntry
+memory-to-the-entry L whole ranks number = (
+  needs-some L whole,
+  λ L′ o n some most m cs a.
+      let whole′ : AllWhole L′ = order-all Whole o whole in
+      let ranks′ : AllRanks L′ = order-all Ranks o ranks in
+      let number′ : length L′ ≤ 16777216 = rw (order-length o) number in
+      let same : least L′ ≡ least L = order-least o ranks in
+      let plain = only-adds n L′ m cs a in (
+        λ l. let s = serves m (a .window) (a .book) (a .queue) n (a .window-le) (a .queue-serves) some most (a .book-size) L′ whole′ ranks′ number′ (omega arith) in
+            (rw (plain .0) (s .0), ap (λ (t : Machine). t .state .used) (plain .1) ∙ s .1 ∙ same),
+        λ l. rw (plain .0) (lacks m (a .window) (a .book) (a .queue) n (a .window-le) (a .queue-serves) some most (a .book-size) L′ whole′ ranks′ number′ (omega arith)),
+      ),
+)
+
 -- ---- what book and readings tell
 
 totals : (r : Recount) → Kept r → TotalsAreVisits (image r) (r .window) (r .paths)
@@ -76,6 +106,8 @@ corollary m first openings w book queue e cs bytes =
       rw (alike .1, W-is, H-is) (totals last (alike .2)),
       λ c. ap (λ (n : Machine). step n (read c) .0) (alike .1) ∙ read-answer last (alike .2) c ∙ known last c _ _ W-is H-is,
       rw (alike .0) (never-nine none all),
+      rw H-is (omega (arith, listing-least (last .paths) (alike .2 .ranks), alike .2 .listed-le, alike .2 .sizes .book-le)),
+      rw H-is (memory-to-the-entry (last .paths) (alike .2 .whole) (alike .2 .ranks) (alike .2 .paths-le)),
     )
   where
     known : (r : Recount) (c : ReadingCall) (W : ℕ) (H : List Steps) → W ≡ r .window → H ≡ r .paths → recounted r (read c) .0 ≡ reading (recountSeen W H) c

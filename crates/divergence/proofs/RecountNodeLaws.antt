@@ -13,14 +13,15 @@ use Rattle.book.specs.Path.{Steps, listedKeys, countedKeys}
 use Rattle.book.specs.Recount.{occurrences, windowPart, listing, counted, rowsOf}
 use Rattle.book.specs.Figures.{total, transitions, endings, Ranks, AllRanks}
 use Rattle.book.proofs.KeyLaws.{key-child, key-parts, child-lt}
+use Rattle.book.proofs.ManyRows.{ascends-entered}
 use Rattle.book.proofs.Occurrences.{occ-nil, occ-cons, occ-append}
 use Rattle.book.proofs.Image.{ascends-listing}
 use Rattle.book.proofs.Meaning.{ends-listed, ends-counted, child-listed, child-counted, occ-total, ranks-window, stands-total}
-use Rattle.book.proofs.Membership.{In, in-tail, in-head, in-cons, in-append, in-none, enterAll-in, in-listing, listing-in}
+use Rattle.book.proofs.Membership.{In, in-tail, in-head, in-cons, in-append, in-none, enterAll-in, in-entered, in-listing, listing-in, same-members}
 use Rattle.book.proofs.ListingForm.{node-end, kind-end, kind-child, listed-sort}
 use Rattle.divergence.specs.Nodes.{Node, spread, listedNodes}
 use Rattle.divergence.specs.RecountNodes.{nodesListed, followers, childrenListed, nodeCounted, recountNodes}
-use Rattle.divergence.proofs.AscentLaws.{in-map, map-in, in-each, each-in, in-entered, ascends-entered, same-members, nodeKeys, ascends-nodes}
+use Rattle.divergence.proofs.AscentLaws.{in-map, map-in, in-each, each-in, nodeKeys, ascends-nodes}
 
 -- ---- the steps after a node, in a path
 

@@ -20,11 +20,11 @@ use Rattle.book.specs.Visits.{visits}
 use Rattle.priors.proofs.Orders.{Alike, alike, unlike, compared}
 use Rattle.book.proofs.Sums.{length-total, total-window, sum-once}
 use Rattle.book.proofs.Meaning.{ranks-window, stands-total, somewhere, total-above}
-use Rattle.book.proofs.Membership.{In, in-head, in-tail, in-cons, in-none, once, enterAll-in}
+use Rattle.book.proofs.ManyRows.{ascends-entered}
+use Rattle.book.proofs.Membership.{In, in-head, in-tail, in-cons, in-none, once, enterAll-in, in-entered}
 use Rattle.book.proofs.VisitLaws.{departures, goes-out, total-both, visits-are}
 use Rattle.divergence.specs.Nodes.{evidenceOf}
 use Rattle.divergence.specs.RecountNodes.{followers, childrenListed, nodeCounted, nodesListed, recountNodes}
-use Rattle.divergence.proofs.AscentLaws.{in-entered, ascends-entered}
 use Rattle.divergence.proofs.RecountNodeLaws.{followers-total}
 
 -- ---- the steps that follow

@@ -1,18 +1,20 @@
 -- What the claim comes to without the recount: H and W are read off the openings and adds and their answers; the book tells what stands in H and how often in the
 -- window part, a reading answers by W, H and what it is lent, and the evidence total of a node is its visits; readings leave no trace; 9 never comes from the list's own
--- tracker. And from the definitions alone: no reading reads index 0 of a table. Assumes nothing.
-use Prim.Native.Nat.{ℕ}
+-- tracker; and what the paths need is the least number of entries that serves. And from the definitions alone: no reading reads index 0 of a table. Assumes nothing.
+use Prim.Native.Nat.{ℕ, _*_, _≤_, _<_}
 use mathlib.Core.Path.{_≡_}
-use mathlib.Core.List.{List, [], _∷_, _++_}
+use mathlib.Core.List.{List, [], _∷_, _++_, List·Permᴰ}
 use mathlib.Core.Option.{none, some, Option·map}
+use lib.ListN.{length}
 use lib.Ieee.{Float}
 use Rattle.priors.specs.Tables.{lentTables}
 use Rattle.priors.specs.Priors.{LentPriors, total}
 use Rattle.book.specs.Keys.{endKey}
 use Rattle.book.specs.Path.{Steps}
 use Rattle.book.specs.Calls.{BookAnswer, openNumber}
-use Rattle.book.specs.Figures.{All}
+use Rattle.book.specs.Figures.{All, AllWhole, AllRanks}
 use Rattle.book.specs.Visits.{visits}
+use Rattle.book.specs.Memory.{least, adds, numbers, AllTaken, SomeTwelve}
 use Rattle.book.specs.Claims.{BookCall, opening, add, Machine, bookStep, runs}
 use Rattle.book.specs.Corollaries.{acceptedSince, windowSince, entriesOf, HasRow, Told}
 use Rattle.divergence.specs.Nodes.{evidenceOf}
@@ -63,6 +65,36 @@ NeverNine (change (opening window book queue) ∷ calls) (answer ∷ answers) = 
 NeverNine (change (add path) ∷ calls) (answer ∷ answers) = (answerNumber answer ≡ 9 → ⊥) × NeverNine calls answers
 NeverNine (read call ∷ calls) (answer ∷ answers) = (answerNumber answer ≡ 9 → otherForm call ≡ 9) × NeverNine calls answers
 
+-- ---- memory quoted to the entry
+
+-- the openings and adds among the calls are an opening in a book of n entries and then an add of each path of L; readings may stand anywhere. The window is any up to
+-- 1,024 that the queue serves, and what book and queue hold is any. The limits are written out, as in the claim
+pub record Adds (n : ℕ) (L : List Steps) (calls : List Call) : Type 0 where
+  pub window : ℕ
+  pub book : List ℕ
+  pub queue : List ℕ
+  pub window-le : window ≤ 1024
+  pub queue-serves : 516 * window ≤ length queue
+  pub book-size : length book ≡ 24 * n
+  pub changes : changesOf calls ≡ opening window book queue ∷ adds L
+
+-- the numbers that they are answered
+abbrev pub numbersOf : Machine → List Call → List ℕ
+numbersOf m calls = numbers (changedAnswers (runs step m calls .0))
+
+-- the different nodes plus the different transitions of L are the least number of entries that serves. It is an entry or more where L has a path or more. Whatever the
+-- order of L and whatever there was before: in a book of that many or more, up to 16,384, every add is taken, and that many are then used; in a smaller one of an entry
+-- or more some add is answered 12, and each that is not is taken
+abbrev pub LeastServes : List Steps → Type 0
+LeastServes L =
+    (1 ≤ length L → 1 ≤ least L)
+    × ((L′ : List Steps) → List·Permᴰ L L′ → (n : ℕ) → 1 ≤ n → n ≤ 16384 → (m : Machine) (calls : List Call) → Adds n L′ calls
+    → (least L ≤ n → AllTaken (numbersOf m calls) × (runs step m calls .1 .state .used ≡ least L)) × (n < least L → SomeTwelve (numbersOf m calls)))
+
+-- so it is with any paths within the limits, whether or not they were ever added
+abbrev pub MemoryToTheEntry : Type 0
+MemoryToTheEntry = (L : List Steps) → AllWhole L → AllRanks L → length L ≤ 16777216 → LeastServes L
+
 -- ---- what book and readings tell
 
 -- of the evidence that readings go by: a listed node has some, and its total is the node's visits; a node that is not listed has none
@@ -73,7 +105,8 @@ TotalsAreVisits m W H =
     × ((HasRow (endKey node) (entriesOf m) → ⊥) → evidenceOf node (nodesOf (m .state) (m .book)) ≡ none)
 
 -- whatever there was before: after any openings, one that is accepted and any calls, the book tells what the paths accepted since the last accepted opening hold, in
--- totals that are visits, and a reading answers by these paths and that opening's window
+-- totals that are visits, and a reading answers by these paths and that opening's window; and what these paths need is at most 16,384 and the least number of entries
+-- that serves them
 abbrev pub Corollary : Type 0
 Corollary =
     (m : Machine) (first : List Call) → All IsOpening first
@@ -84,6 +117,7 @@ Corollary =
     let W = windowSince 0 (changesOf all) (changedAnswers (ran .0)) in
     let H = acceptedSince [] (changesOf all) (changedAnswers (ran .0)) in
     Told (ran .1) W H × TotalsAreVisits (ran .1) W H × ((call : ReadingCall) → step (ran .1) (read call) .0 ≡ reading (recountSeen W H) call) × NeverNine all (ran .0)
+    × (least H ≤ 16384) × LeastServes H
 
 -- ---- index 0 of the tables
 

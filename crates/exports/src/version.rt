@@ -7,12 +7,12 @@ const MAJOR: u32 = 0;
 
 const MINOR: u32 = 3;
 
-const PATCH: u32 = 1;
+const PATCH: u32 = 2;
 
-// Version 0.3.1: major times 1,000,000, minor times 1,000 and patch.
+// Version 0.3.2: major times 1,000,000, minor times 1,000 and patch.
 #[no_mangle]
 pub extern "C" fn teakpool_version() -> u32
-    ensures { λ r. ⌜ r ≡ 0 * 1000000 + 3 * 1000 + 1 ⌝ }
+    ensures { λ r. ⌜ r ≡ 0 * 1000000 + 3 * 1000 + 2 ⌝ }
 {
     MAJOR * 1000000 + MINOR * 1000 + PATCH
 }

@@ -1,7 +1,7 @@
 -- Cases of two numbers, and when two tests on numbers answer alike. Assumes nothing.
 use mathlib.Core.Path.{_≡_, refl, sym, _∙_}
 use mathlib.Core.Logic.{_⊎_, inl, inr, ⊎-elim}
-use mathlib.Core.Bool.{Bool, true, false, _&&_}
+use mathlib.Core.Bool.{Bool, true, false, cond, _&&_}
 use Prim.Native.Nat.{ℕ, zero, suc, _≤_, _<_, zero-le, suc-le-suc}
 use native.Mathlib.Omega.{arith}
 use lib.Dec.{ltb, eqb}
@@ -38,3 +38,10 @@ pub answers-same : (a b : Bool) → (a ≡ true → b ≡ true) → (b ≡ true 
 answers-same true b f g = sym (f refl)
 answers-same false true f g = g refl
 answers-same false false f g = refl
+
+-- and so are two that count alike
+pub same-test : (a b : Bool) → _≡_ {A = ℕ} (cond a 1 0) (cond b 1 0) → a ≡ b
+same-test true true h = refl
+same-test true false h = absurd (omega arith)
+same-test false true h = absurd (omega arith)
+same-test false false h = refl

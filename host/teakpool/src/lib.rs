@@ -75,7 +75,7 @@ pub use tracker::{
     try_path, KLDivergenceStats, NodeKlList, Output, ProbVector, State, Tracker, ENTRY_BYTES, PLACE_BYTES,
 };
 
-/// The crate's version, as `"0.3.1"`.
+/// The crate's version, as `"0.3.2"`.
 pub const VERSION: &str = env!("CARGO_PKG_VERSION");
 
 /// The linked archive's version: major, minor, patch.
