@@ -1,27 +1,34 @@
 //! Every short list over two addresses: all paths of up to `steps` steps, all lists of `adds`
 //! of them, for given windows and capacities, with all readings at the end. With a floor the two
-//! addresses have one point. And every look-up in every chain over six addresses.
+//! addresses have one point. Every order of every short list over two or three, in every book from one entry
+//! to one more than it needs. And every look-up in every chain over six addresses.
 
 use crate::calls::{Call, CallList, Places, PriorBytes, Tables};
 use crate::lookups::PriorsCase;
 use crate::rng::Rng;
 use crate::{priors, tables};
 use recount::limits::{ENTRY_BYTES, PLACE_BYTES};
-use recount::{check_priors, path_bytes, record_bytes, Address};
+use recount::{check_priors, least, path_bytes, record_bytes, Address};
+use std::collections::BTreeSet;
 
 /// The two addresses, ordered by signed scale.
 const ADDRESSES: [Address; 2] = [Address::new(-1, 7), Address::new(0, 3)];
 
+/// Three addresses, of which two have one scale and two one point.
+const THREE: [Address; 3] = [Address::new(-1, 7), Address::new(0, 3), Address::new(0, 7)];
+
 /// Two addresses with one point.
 const ONE_POINT: [Address; 2] = [Address::new(-1, 7), Address::new(0, 7)];
 
-/// All paths of 1 to `steps` steps over the two addresses.
-fn paths(addresses: [Address; 2], steps: usize) -> Vec<Vec<Address>> {
+/// All paths of 1 to `steps` steps over these addresses.
+fn paths(addresses: &[Address], steps: usize) -> Vec<Vec<Address>> {
     let mut longest: Vec<Vec<Address>> = vec![Vec::new()];
     let mut all = Vec::new();
     for _ in 0..steps {
-        longest =
-            longest.iter().flat_map(|path| addresses.map(|step| [&path[..], &[step]].concat())).collect();
+        let longer = |path: &Vec<Address>| -> Vec<Vec<Address>> {
+            addresses.iter().map(|step| [&path[..], &[*step]].concat()).collect()
+        };
+        longest = longest.iter().flat_map(longer).collect();
         all.extend(longest.clone());
     }
     all
@@ -47,6 +54,89 @@ pub fn each_short_list<E>(mut each: impl FnMut(&CallList) -> Result<(), E>) -> R
         each_list(ONE_POINT, &[6], (3, 2), (&gamma, lent), &mut each)?;
     }
     Ok(())
+}
+
+/// A list of paths in one of its orders: an opening with a book of `capacity` entries, and the adds.
+#[derive(Debug)]
+pub struct Ordered {
+    /// The calls.
+    pub list: CallList,
+    /// The book's entries.
+    pub capacity: usize,
+    /// The least capacity for its paths.
+    pub least: usize,
+}
+
+/// How many lists of paths were tried, in how many orders, and in how many books.
+#[derive(Debug, Clone, Copy, Default, PartialEq, Eq)]
+pub struct Tried {
+    /// The lists, whatever the order of their paths.
+    pub lists: u64,
+    /// The orders of all of them.
+    pub orders: u64,
+    /// The books that these were added to, one for each window and capacity.
+    pub books: u64,
+}
+
+impl Tried {
+    /// Adds what another counted.
+    pub fn join(&mut self, other: Tried) {
+        self.lists += other.lists;
+        self.orders += other.orders;
+        self.books += other.books;
+    }
+}
+
+/// Calls `each` with every order of every list of one to three paths of up to two steps over three
+/// addresses, and of two paths of up to three steps over two of which one has three: for each window up to
+/// 3, and in each book from one entry to one more than the list needs. Ends at the first that `each` fails on.
+pub fn each_order<E>(mut each: impl FnMut(&Ordered) -> Result<(), E>) -> Result<Tried, E> {
+    let mut tried = Tried::default();
+    let short = (1..=3).flat_map(|adds| lists(&paths(&THREE, 2), adds));
+    let has_three_steps = |list: &Vec<Vec<Address>>| list.iter().any(|path| path.len() == 3);
+    let long = lists(&paths(&ADDRESSES, 3), 2).into_iter().filter(has_three_steps);
+    for list in short.chain(long) {
+        tried.lists += 1;
+        let least = least(&list);
+        for order in orders(&list) {
+            tried.orders += 1;
+            for (window, capacity) in windows_and_capacities(least + 1) {
+                tried.books += 1;
+                let mut calls = opening(window, capacity);
+                calls.extend(order.iter().map(|path| Call::Add { path: path_bytes(path) }));
+                each(&Ordered { list: CallList { fill: 0xa5, calls }, capacity, least })?;
+            }
+        }
+    }
+    Ok(tried)
+}
+
+fn windows_and_capacities(most: usize) -> impl Iterator<Item = (u32, usize)> {
+    (0..=3).flat_map(move |window| (1..=most).map(move |capacity| (window, capacity)))
+}
+
+/// Every list of `adds` of these paths, in one order each: no path comes after one that follows it here.
+fn lists(paths: &[Vec<Address>], adds: usize) -> Vec<Vec<Vec<Address>>> {
+    if adds == 0 {
+        return vec![Vec::new()];
+    }
+    let beginning = |first: usize| {
+        let rests = lists(&paths[first..], adds - 1);
+        rests.into_iter().map(move |rest| [&paths[first..=first], &rest].concat())
+    };
+    (0..paths.len()).flat_map(beginning).collect()
+}
+
+/// Every order of these paths, each once.
+fn orders(list: &[Vec<Address>]) -> BTreeSet<Vec<Vec<Address>>> {
+    if list.is_empty() {
+        return BTreeSet::from([Vec::new()]);
+    }
+    let beginning = |first: usize| {
+        let rests = orders(&[&list[..first], &list[first + 1..]].concat());
+        rests.into_iter().map(move |rest| [&list[first..=first], &rest].concat())
+    };
+    (0..list.len()).flat_map(beginning).collect()
 }
 
 /// Priors whose records all have one point, at every choice of scales from -2 to 1, with every floor
@@ -94,7 +184,7 @@ fn each_list<E>(
     (tables, priors): (&Tables, &PriorBytes),
     mut each: impl FnMut(&CallList) -> Result<(), E>,
 ) -> Result<(), E> {
-    let paths: Vec<Vec<u8>> = paths(addresses, steps).iter().map(|path| path_bytes(path)).collect();
+    let paths: Vec<Vec<u8>> = paths(&addresses, steps).iter().map(|path| path_bytes(path)).collect();
     for window in [0, 1, 2, 3] {
         for capacity in capacities {
             for number in 0..paths.len().pow(adds as u32) {

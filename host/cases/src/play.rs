@@ -162,6 +162,11 @@ impl Answer {
         }
     }
 
+    /// The number of that refusal, 0 where it is none.
+    pub fn number(&self) -> u32 {
+        self.refusal().map_or(0, |refusal| refusal.number)
+    }
+
     /// The figures of the answer: those in its result, then those of the places that it filled.
     pub fn told(&self) -> Vec<f64> {
         let filled = |places: u32, output: &Places| -> Vec<f64> {

@@ -1,9 +1,9 @@
 //! Holds answers against goko's, the recount's or the archive's. Where they refuse by a limit
 //! that goko does not have, or where goko's index of a layer leaves 32 bits, nothing is compared;
 //! where they refuse with 14, 15 or 18, goko must break off, or give none for 14 of a single node.
-//! goko's own totals are held to the visits.
+//! goko's own totals are held to the visits, and how many numbers it has to the least capacity.
 
-use crate::{Compared, Tally, Total, Visited};
+use crate::{Compared, Laws, Tally, Total};
 use cases::baselines::{StatsAsked, Training};
 use cases::calls::{Call, CallList, Places, PriorBytes};
 use cases::lookups::{Looked, PriorsCase};
@@ -63,12 +63,12 @@ fn equal<T: PartialEq + std::fmt::Debug>(what: &str, ours: T, theirs: T) -> Comp
 pub fn compare_list(list: &CallList, tally: &mut Tally) -> Compared {
     let mut player = Player::new(History::default());
     let mut beside = Beside::default();
-    let mut visited = Visited::default();
+    let mut laws = Laws::default();
     for (index, call) in list.calls.iter().enumerate() {
         let answer = player.play(call);
-        visited.hear(call, &answer);
+        laws.hear(call, &answer);
         beside
-            .hold(call, &answer, &player, &visited, tally)
+            .hold(call, &answer, &player, &laws, tally)
             .map_err(|text| format!("call {} of {:#?}\n{}", index, list, text))?;
     }
     Ok(())
@@ -85,13 +85,13 @@ impl Default for Beside {
 
 impl Beside {
     /// Carries out the call and holds `answer` against what goko gives. `played` is the recount
-    /// after the same call, `visited` has heard it.
+    /// after the same call, `laws` have heard it.
     pub fn hold(
         &mut self,
         call: &Call,
         answer: &Answer,
         played: &Player<History>,
-        visited: &Visited,
+        laws: &Laws,
         tally: &mut Tally,
     ) -> Compared {
         let answered = matches!(answer.refusal(), None | Some(Refusal { number: 14 | 15, .. }));
@@ -100,7 +100,7 @@ impl Beside {
         }
         match answer {
             Answer::Lent => self.lend(played),
-            Answer::Changed(Ok(())) => self.change(call, played, visited, tally)?,
+            Answer::Changed(Ok(())) => self.change(call, played, laws, tally)?,
             Answer::Changed(Err(_)) => tally.not_comparable += 1,
             Answer::Vector(answer, output) => self.vector(call, *answer, output, tally)?,
             Answer::Divergence(answer) => self.divergence(call, *answer, tally)?,
@@ -115,13 +115,7 @@ impl Beside {
         self.0.lend_priors(&goko_priors(&played.priors), played.priors.floor);
     }
 
-    fn change(
-        &mut self,
-        call: &Call,
-        played: &Player<History>,
-        visited: &Visited,
-        tally: &mut Tally,
-    ) -> Compared {
+    fn change(&mut self, call: &Call, played: &Player<History>, laws: &Laws, tally: &mut Tally) -> Compared {
         tally.changes += 1;
         match call {
             Call::Add { path } => {
@@ -135,11 +129,10 @@ impl Beside {
         }
         let evidence = played.side.evidence().expect("the recount's tracker is in form");
         equal("sequence length", evidence.sequence_len as usize, self.0.sequence_len())?;
-        equal("counts", goko_evidence(&evidence), self.0.evidence())?;
-        let totals = self.totals()?;
-        visited.hold_totals(&totals).map_err(|text| format!("goko: {}", text))?;
-        tally.met.goko_visited(&totals);
-        Ok(())
+        let theirs = self.0.evidence();
+        let numbers = theirs.iter().map(|node| 1 + node.children.len()).sum();
+        equal("counts", goko_evidence(&evidence), theirs)?;
+        laws.hold_goko(&self.totals()?, numbers, &mut tally.met).map_err(|text| format!("goko: {}", text))
     }
 
     /// goko's evidence totals, each a whole number.

@@ -1,5 +1,6 @@
-//! What holds goko, the recount and the recount's part for lent bytes together, and counts to visits;
-//! the program `compare` runs it on many cases, and `through` holds the archive's answers against goko's.
+//! What holds goko, the recount and the recount's part for lent bytes together, counts to visits and used
+//! entries to the least capacity; the program `compare` runs it on many cases, and `through` holds the
+//! archive's answers against goko's.
 //! Without goko's sources the module `goko` compares nothing.
 
 mod floors;
@@ -8,14 +9,23 @@ pub mod goko;
 #[cfg(no_goko)]
 #[path = "no_goko.rs"]
 pub mod goko;
+mod kept;
+mod laws;
 mod lookups;
 mod met;
+mod orders;
 pub mod own;
+mod room;
 mod visited;
 
+pub use kept::Kept;
+pub use laws::Laws;
 pub use met::Met;
+pub use orders::Played;
+pub use room::Room;
 pub use visited::{Total, Visited};
 
+use cases::exhaustive::Tried;
 use cases::play::Answer;
 use recount::Refusal;
 use std::collections::BTreeMap;
@@ -45,7 +55,9 @@ pub struct Tally {
     pub altered: u64,
     /// What the recount gave, by refusal number, 0 for an answer.
     pub numbers: BTreeMap<u32, u64>,
-    /// What was met of floors, child look-ups and visits.
+    /// What was tried of lists in every order.
+    pub tried: Tried,
+    /// What was met of floors, child look-ups, visits and room.
     pub met: Met,
 }
 
@@ -81,11 +93,13 @@ impl Tally {
         for (number, count) in &other.numbers {
             *self.numbers.entry(*number).or_default() += count;
         }
+        self.tried.join(other.tried);
         self.met.join(&other.met);
     }
 
     /// Fails where something that is to be met was not met at all.
     pub fn met_all(&self) -> Compared {
+        must(self.tried.books > 0, || "no list was tried in every order".to_string())?;
         match &self.met.missing()[..] {
             [] => Ok(()),
             missing => Err(format!("nothing was compared of: {}", missing.join("; "))),
@@ -104,6 +118,11 @@ impl Tally {
 
     /// Prints what was met and, if goko's sources were there, what was held against it.
     pub fn print_rest(&self) {
+        let Tried { lists, orders, books } = self.tried;
+        println!(
+            "{} short lists in all their {} orders, in {} books: no 12 from the least capacity on, one or more below",
+            lists, orders, books
+        );
         self.met.print();
         if oracle::PRESENT {
             println!("with goko, {} figures bit for bit:", self.figures);

@@ -1,11 +1,12 @@
 //! Compares goko with the recount on many call lists, trainings, `stats` readings and look-ups of
 //! children, every figure bit for bit wherever goko does not panic; and the recount with its own part
-//! for lent bytes, on the same lists and on altered memory; and all counts with the visits. The seed
-//! decides all of it.
+//! for lent bytes, on the same lists and on altered memory; all counts with the visits, and used entries
+//! and 12 with the least capacity. The seed decides all of it.
 //!
 //!     compare [--lists N] [--seed S]
 
 use cases::calls::CallList;
+use cases::exhaustive::Ordered;
 use cases::lists::{call_list, Shape};
 use cases::lookups::{self, PriorsCase};
 use cases::rng::Rng;
@@ -51,6 +52,8 @@ fn arguments() -> Option<(u64, u64)> {
 fn everything(lists: u64, seed: u64, tally: &mut Tally) -> Compared {
     recorded_sample(tally)?;
     exhaustive::each_short_list(|list| call_list_on_all(list, tally))?;
+    let tried = exhaustive::each_order(|case| order_on_all(case, tally))?;
+    tally.tried.join(tried);
     exhaustive::every_chain().iter().try_for_each(|case| lookups_on_both(case, tally))?;
     for number in 0..lists {
         let mut rng = Rng::new(seed.wrapping_mul(1 << 32).wrapping_add(number));
@@ -101,6 +104,12 @@ fn call_list_on_all(list: &CallList, tally: &mut Tally) -> Compared {
     own::check_list(list, tally)?;
     goko::compare_list(list, tally)?;
     Ok(())
+}
+
+fn order_on_all(case: &Ordered, tally: &mut Tally) -> Compared {
+    tally.lists += 1;
+    own::check_order(case, tally)?;
+    goko::compare_list(&case.list, tally)
 }
 
 fn lookups_on_both(case: &PriorsCase, tally: &mut Tally) -> Compared {

@@ -1,13 +1,14 @@
-//! How often each of the things was met that a run is to meet: what `floors`, `lookups` and `visited` name.
+//! How often each of the things was met that a run is to meet: what `floors`, `lookups`, `visited` and `room`
+//! name.
 
-use crate::{floors, lookups, visited};
+use crate::{floors, lookups, room, visited};
 use cases::shown;
 use std::collections::BTreeMap;
 
 type Kinds = Vec<&'static str>;
 
 /// What is to be met, as far as goko's sources are there, by what it is of.
-fn to_be_met() -> [(&'static str, Kinds); 3] {
+fn to_be_met() -> [(&'static str, Kinds); 4] {
     let kinds = |met: Kinds, with_goko: &[&'static str]| -> Kinds {
         met.into_iter().chain(with_goko.iter().copied().filter(|_| oracle::PRESENT)).collect()
     };
@@ -15,6 +16,7 @@ fn to_be_met() -> [(&'static str, Kinds); 3] {
         ("with floors", kinds(floors::MET.to_vec(), &floors::MET_WITH_GOKO)),
         ("of child look-ups", kinds(shown::all().collect(), &lookups::MET_WITH_GOKO)),
         ("of visits", kinds(visited::MET.to_vec(), &visited::MET_WITH_GOKO)),
+        ("of room in the book", kinds(room::MET.to_vec(), &room::MET_WITH_GOKO)),
     ]
 }
 

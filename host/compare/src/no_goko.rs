@@ -1,6 +1,6 @@
 //! Takes the place of `goko` where its sources are missing: nothing is compared.
 
-use crate::{Compared, Tally, Visited};
+use crate::{Compared, Laws, Tally};
 use cases::baselines::{StatsAsked, Training};
 use cases::calls::{Call, CallList};
 use cases::lookups::{Looked, PriorsCase};
@@ -14,14 +14,7 @@ pub struct Beside;
 
 impl Beside {
     /// Nothing.
-    pub fn hold(
-        &mut self,
-        _: &Call,
-        _: &Answer,
-        _: &Player<History>,
-        _: &Visited,
-        _: &mut Tally,
-    ) -> Compared {
+    pub fn hold(&mut self, _: &Call, _: &Answer, _: &Player<History>, _: &Laws, _: &mut Tally) -> Compared {
         Ok(())
     }
 }

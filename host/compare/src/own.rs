@@ -1,12 +1,14 @@
 //! What the recount must do by itself, goko or not: its two parts agree byte for byte on
 //! every list, a refused call changes nothing that is lent, an answer leaves the places past
-//! it alone, after every call the bytes count the visits of each node, an add on altered memory changes
-//! what it may and nothing else, and a child's look-up tells what a walk along the chain finds and reads.
+//! it alone, after every call the bytes count the visits of each node and use as many entries as the
+//! least capacity is, an add on altered memory changes what it may and nothing else, and a child's look-up
+//! tells what a walk along the chain finds and reads.
 
-use crate::{Compared, Tally, Visited};
+use crate::{Compared, Laws, Played, Tally};
 use cases::altered::AlteredAdd;
 use cases::baselines::Training;
 use cases::calls::{Call, CallList, Places, PriorBytes};
+use cases::exhaustive::Ordered;
 use cases::lookups::{Looked, PriorsCase};
 use cases::play::{Answer, Bytes, History, Player, Side};
 use recount::limits::{ENTRY_BYTES, MAX_CHAIN, MAX_COUNT, PLACE_BYTES};
@@ -25,43 +27,52 @@ fn shown(side: &impl Side) -> (State, Vec<u8>, Vec<u8>) {
     (side.state(), side.book(), side.queue())
 }
 
-/// Plays a list on the history and on lent bytes.
-pub fn check_list(list: &CallList, tally: &mut Tally) -> Compared {
+/// Plays a list on the history and on lent bytes, and gives what it came to.
+pub fn check_list(list: &CallList, tally: &mut Tally) -> Result<Played, String> {
     let mut history = Player::new(History::default());
     let mut bytes = Player::new(Bytes::filled(list.fill));
-    let mut visited = Visited::default();
+    let mut laws = Laws::default();
+    let mut numbers = Vec::new();
     for (index, call) in list.calls.iter().enumerate() {
-        check_call(&mut history, &mut bytes, &mut visited, call, tally)
+        let number = check_call(&mut history, &mut bytes, &mut laws, call, tally)
             .map_err(|text| format!("call {} of {:#?}\n{}", index, list, text))?;
+        numbers.push(number);
     }
-    Ok(())
+    Ok(Played { numbers, used: bytes.side.state().used })
 }
 
+/// A list of paths in one of its orders.
+pub fn check_order(case: &Ordered, tally: &mut Tally) -> Compared {
+    check_list(&case.list, tally)?.hold_order(case)
+}
+
+/// Gives the number that the call is answered.
 fn check_call(
     history: &mut Player<History>,
     bytes: &mut Player<Bytes>,
-    visited: &mut Visited,
+    laws: &mut Laws,
     call: &Call,
     tally: &mut Tally,
-) -> Compared {
+) -> Result<u32, String> {
     let before = shown(&bytes.side);
     let answer = bytes.play(call);
     let after = shown(&bytes.side);
     tally.answer(&answer);
     tally.met.reading(call, &answer, &bytes.side, &bytes.priors);
-    visited.hold(call, &answer, (after.0.used, &after.1), &mut tally.met)?;
+    laws.hold(call, &answer, (after.0.used, &after.1), &mut tally.met)?;
     let recounted = history.play(call);
     must(recounted.same(&answer), &format!("the history answers {:?}, the bytes {:?}", recounted, answer))?;
     must(!answer.told().into_iter().any(is_minus_zero), "a reading told minus zero")?;
     match answer {
         Answer::Changed(Ok(())) => {
-            must(after == shown(&history.side), "state, book or queue is no image of the history")
+            must(after == shown(&history.side), "state, book or queue is no image of the history")?;
         }
-        answer => {
+        _ => {
             must(after == before, "a refused call or a reading changed the tracker")?;
-            check_output(call, &answer)
+            check_output(call, &answer)?;
         }
     }
+    Ok(answer.number())
 }
 
 /// A reading fills places from 0 up and leaves the others; a refused one fills none.

@@ -1,13 +1,13 @@
 //! Holds a tracker's counts to the visits of its nodes, after every call from an accepted opening on, and
-//! tells what was met of visits. W and H are kept from the calls and their answers alone; the counts are
-//! read from the tracker's bytes, or are goko's.
+//! tells what was met of visits. The counts are read from the tracker's bytes, or are goko's.
 
+use crate::kept::Kept;
 use crate::met::Met;
 use crate::{must, Compared};
 use cases::calls::Call;
 use cases::play::Answer;
 use recount::limits::ENTRY_BYTES;
-use recount::{step_count, steps, visits, window_part, word, Address};
+use recount::{step_count, visits, word, Address};
 use std::collections::{BTreeMap, BTreeSet};
 
 const HELD: &str = "calls after which all counts were held to the visits";
@@ -27,12 +27,9 @@ pub const MET_WITH_GOKO: [&str; 2] = [WITH_GOKO, ZERO_IN_GOKO];
 /// A listed node and its evidence total.
 pub type Total = (Address, u64);
 
-/// W and H since the last accepted opening, and what the window part tells of its nodes.
+/// What the window part tells of its nodes.
 #[derive(Debug, Default)]
 pub struct Visited {
-    /// W, none before the first accepted opening.
-    window: Option<u32>,
-    paths: Vec<Vec<Address>>,
     visits: BTreeMap<Address, u64>,
     /// The nodes that a path of the window part holds, told by the steps alone.
     held: BTreeSet<Address>,
@@ -42,47 +39,41 @@ pub struct Visited {
 }
 
 impl Visited {
-    /// Takes in a call and its answer: an accepted opening sets W and empties H, an accepted add appends
-    /// its path to H, and nothing else changes them.
-    pub fn hear(&mut self, call: &Call, answer: &Answer) {
+    /// Takes in a call and its answer, which `kept` has heard.
+    pub fn hear(&mut self, kept: &Kept, call: &Call, answer: &Answer) {
         match (call, answer) {
-            (Call::Open { window, .. }, Answer::Changed(Ok(()))) => {
-                *self = Visited { window: Some(*window), ..Visited::default() };
-            }
-            (Call::Add { path }, Answer::Changed(Ok(()))) => {
-                self.paths.push(steps(path));
-                let window_part = window_part(self.window.unwrap_or(0), &self.paths);
+            (Call::Open { .. }, Answer::Changed(Ok(()))) => *self = Visited::default(),
+            (Call::Add { .. }, Answer::Changed(Ok(()))) => {
+                let window_part = kept.window_part();
                 self.visits = visits(window_part);
                 self.held = window_part.iter().flatten().copied().collect();
                 self.steps = step_count(window_part);
-                let left = self.paths.len() - window_part.len();
-                self.began.extend(self.paths[..left].last().map(|path| path[0]));
+                let left = kept.paths.len() - window_part.len();
+                self.began.extend(kept.paths[..left].last().map(|path| path[0]));
             }
             _ => {}
         }
     }
 
-    /// Takes in a call and its answer, and holds what the book's used entries then count to the visits.
-    /// Before the first accepted opening there is nothing to hold, and a lending is no call.
+    /// Takes in a call and its answer, which `kept` has heard, and holds what the book's used entries then
+    /// count to the visits.
     pub fn hold(
         &mut self,
+        kept: &Kept,
         call: &Call,
         answer: &Answer,
         (used, book): (u32, &[u8]),
         met: &mut Met,
     ) -> Compared {
-        let had_paths = !self.paths.is_empty();
-        self.hear(call, answer);
-        if self.window.is_none() || matches!(answer, Answer::Lent) {
-            return Ok(());
-        }
+        let had_paths = self.steps > 0;
+        self.hear(kept, call, answer);
         let totals = totals(used, book)?;
         self.hold_totals(&totals)?;
         met.count(HELD, true);
         met.count(REFUSED, answer.refusal().is_some());
         match (call, answer) {
             (Call::Open { .. }, Answer::Changed(Ok(()))) => met.count(ANEW, had_paths),
-            (Call::Add { .. }, Answer::Changed(Ok(()))) => met.added(self, &totals),
+            (Call::Add { .. }, Answer::Changed(Ok(()))) => met.added(kept, self, &totals),
             _ => {}
         }
         Ok(())
@@ -123,8 +114,8 @@ fn totals(used: u32, book: &[u8]) -> Result<Vec<Total>, String> {
 
 impl Met {
     /// Counts an accepted add, after which the listed nodes have these totals.
-    fn added(&mut self, visited: &Visited, totals: &[Total]) {
-        if let Some(path) = visited.paths.last() {
+    fn added(&mut self, kept: &Kept, visited: &Visited, totals: &[Total]) {
+        if let Some(path) = kept.paths.last() {
             let by_this_path = visits(std::slice::from_ref(path));
             self.count(TWICE, by_this_path.values().any(|visits| *visits > 1));
             self.count(TO_ITSELF, path.windows(2).any(|pair| pair[0] == pair[1]));

@@ -2,7 +2,7 @@
 
 use cases::calls::Call;
 use cases::play::{Bytes, Player, Side};
-use compare::{Met, Visited};
+use compare::{Kept, Met, Visited};
 use recount::limits::{ENTRY_BYTES, PLACE_BYTES};
 use recount::{path_bytes, word, Address};
 
@@ -12,20 +12,31 @@ const TWO: Address = Address::new(0, 3);
 /// A call after which nothing has changed.
 const READING: Call = Call::KlDivStats;
 
+/// Lent bytes, and what holds them to the visits.
+struct Played {
+    player: Player<Bytes>,
+    kept: Kept,
+    visited: Visited,
+}
+
 /// Plays calls on lent bytes, each held to the visits.
-fn played(calls: &[Call]) -> (Player<Bytes>, Visited) {
-    let (mut player, mut visited) = (Player::new(Bytes::filled(0xa5)), Visited::default());
+fn played(calls: &[Call]) -> Played {
+    let player = Player::new(Bytes::filled(0xa5));
+    let mut played = Played { player, kept: Kept::default(), visited: Visited::default() };
     for call in calls {
+        let Played { player, kept, visited } = &mut played;
         let answer = player.play(call);
         let (used, book) = (player.side.state().used, player.side.book());
-        visited.hold(call, &answer, (used, &book), &mut Met::default()).expect("the bytes count the visits");
+        kept.hear(call, &answer);
+        let held = visited.hold(kept, call, &answer, (used, &book), &mut Met::default());
+        held.expect("the bytes count the visits");
     }
-    (player, visited)
+    played
 }
 
 /// Window 1: the path (ONE, TWO, ONE) has left it, the path (TWO, TWO) is in it. The used entries are ONE's
 /// ending with 0, ONE to TWO with 0, TWO's ending with 1, TWO to ONE with 0 and TWO to TWO with 1.
-fn two_adds() -> (Player<Bytes>, Visited) {
+fn two_adds() -> Played {
     played(&[
         Call::Open { window: 1, book_len: 6 * ENTRY_BYTES, queue_len: PLACE_BYTES },
         Call::Add { path: path_bytes(&[ONE, TWO, ONE]) },
@@ -34,15 +45,16 @@ fn two_adds() -> (Player<Bytes>, Visited) {
 }
 
 /// Whether entries in place of those that the bytes have pass.
-fn passes((mut player, mut visited): (Player<Bytes>, Visited), used: u32, book: &[u8]) -> bool {
+fn passes(played: Played, used: u32, book: &[u8]) -> bool {
+    let Played { mut player, kept, mut visited } = played;
     let answer = player.play(&READING);
-    visited.hold(&READING, &answer, (used, book), &mut Met::default()).is_ok()
+    visited.hold(&kept, &READING, &answer, (used, book), &mut Met::default()).is_ok()
 }
 
 #[test]
 fn the_bytes_themselves() {
-    let (player, _) = two_adds();
-    let (used, book) = (player.side.state().used, player.side.book());
+    let side = two_adds().player.side;
+    let (used, book) = (side.state().used, side.book());
     let counts: Vec<u32> = book.chunks(ENTRY_BYTES).take(5).map(|entry| word(entry, 5)).collect();
     assert_eq!((used, &counts[..]), (5, &[0, 0, 1, 0, 1][..]));
     assert!(passes(two_adds(), used, &book));
@@ -50,7 +62,7 @@ fn the_bytes_themselves() {
 
 #[test]
 fn a_count_too_many_or_too_few() {
-    let book = two_adds().0.side.book();
+    let book = two_adds().player.side.book();
     for entry in 0..5 {
         for count in [0, 1, 2] {
             let mut altered = book.clone();
@@ -63,7 +75,7 @@ fn a_count_too_many_or_too_few() {
 
 #[test]
 fn a_count_of_another_node() {
-    let mut book = two_adds().0.side.book();
+    let mut book = two_adds().player.side.book();
     book[20] = 1;
     book[ENTRY_BYTES * 2 + 20] = 0;
     assert!(!passes(two_adds(), 5, &book), "all counts together are the steps, but each node's are not");
@@ -71,7 +83,7 @@ fn a_count_of_another_node() {
 
 #[test]
 fn a_node_that_is_not_listed() {
-    let book = two_adds().0.side.book();
+    let book = two_adds().player.side.book();
     assert!(!passes(two_adds(), 2, &book), "TWO has visits");
     assert!(!passes(two_adds(), 4, &book), "TWO has one visit more");
     assert!(!passes(two_adds(), 0, &book), "nothing is listed");
@@ -81,7 +93,7 @@ fn a_node_that_is_not_listed() {
 
 #[test]
 fn entries_after_an_opening() {
-    let book = two_adds().0.side.book();
+    let book = two_adds().player.side.book();
     let anew = || played(&[Call::Open { window: 1, book_len: 6 * ENTRY_BYTES, queue_len: PLACE_BYTES }]);
     assert!(passes(anew(), 0, &book) && !passes(anew(), 5, &book));
 }

@@ -1,11 +1,13 @@
 //! The rules of docs/RULES.md as plain Rust, with no code of the library. `Recount` keeps W and
 //! H, the list of accepted paths, and works everything out afresh at each call. `memory` carries
 //! out one call on lent bytes, whoever wrote them. Both give the same `Evidence` to the readings,
-//! so the formulas stand once. `visits` are counted from plain paths. Refusals carry the rules' numbers.
+//! so the formulas stand once. `visits` and `least`, the capacity that paths need, are counted from plain
+//! paths. Refusals carry the rules' numbers.
 
 mod address;
 mod evidence;
 mod figures;
+mod least;
 pub mod limits;
 pub mod memory;
 mod priors;
@@ -20,6 +22,7 @@ mod visits;
 pub use address::{path_bytes, steps, word, Address};
 pub use evidence::{window_part, Evidence, NodeEvidence};
 pub use figures::{is_minus_zero, same_figure, same_figures};
+pub use least::least;
 pub use memory::{add_path, open, Memory};
 pub use priors::{check_priors, child, record_bytes, ChildLookup, LentPriors, Prior, Priors};
 pub use readings::{

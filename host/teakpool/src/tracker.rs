@@ -14,7 +14,8 @@ pub const PLACE_BYTES: usize = 516;
 pub struct State {
     /// The window, 0 for all paths.
     pub window: u32,
-    /// Entries used in the book.
+    /// Entries used in the book: the different nodes and the different transitions of all paths accepted
+    /// since the opening. It is the least capacity that takes these paths ([`Tracker::open`]).
     pub used: u32,
     /// Paths accepted.
     pub accepted: u32,
@@ -136,6 +137,33 @@ impl<'m> Tracker<'m> {
     /// assert_eq!(Tracker::open(1_025, &mut [0; 24], &mut []).unwrap_err(), Refusal::Window);
     /// assert_eq!(Tracker::open(1, &mut [0; 24], &mut [0; 515]).unwrap_err(), Refusal::Form);
     /// assert!(Tracker::open(0, &mut [0; 24], &mut []).is_ok());
+    /// ```
+    ///
+    /// # How large a book
+    /// A book with an entry for each different node and each different transition takes a list of paths in
+    /// any order and with any window. A smaller one that has an entry or more refuses some of them with
+    /// [`Refusal::BookFull`]. So a book is sized by paths that were recorded: they run through a large one,
+    /// which tells how many it used.
+    ///
+    /// ```
+    /// use teakpool::{Address, Refusal, Tracker, ENTRY_BYTES};
+    ///
+    /// let [one, two, three] = [(2, 0), (1, 0), (0, 4)].map(|(scale, point)| Address::new(scale, point));
+    /// let recorded: [&[Address]; 4] = [&[one, two], &[one, two, three], &[one, two], &[one, three]];
+    /// let mut book = [0; 64 * ENTRY_BYTES];
+    /// let mut large = Tracker::open(0, &mut book, &mut [])?;
+    /// recorded.iter().try_for_each(|path| large.add_path(path))?;
+    /// let needed = large.state().used as usize;
+    /// assert_eq!(needed, 3 + 3);
+    ///
+    /// let mut sized = Tracker::open(0, &mut book[..needed * ENTRY_BYTES], &mut [])?;
+    /// recorded.iter().rev().try_for_each(|path| sized.add_path(path))?;
+    /// assert_eq!(sized.state().used as usize, needed);
+    ///
+    /// let mut smaller = Tracker::open(0, &mut book[..(needed - 1) * ENTRY_BYTES], &mut [])?;
+    /// let refused = recorded.map(|path| smaller.add_path(path).err());
+    /// assert_eq!(refused, [None, None, None, Some(Refusal::BookFull)]);
+    /// # Ok::<(), Refusal>(())
     /// ```
     pub fn open(window: u32, book: &'m mut [u8], queue: &'m mut [u8]) -> Result<Tracker<'m>, Refusal> {
         let mut state = [0; 3];

@@ -1,15 +1,17 @@
 //! One case through the archive and on the recount: answers, outputs, state and every byte of
 //! book and queue must be the same, figures bit for bit, and after every call of a list the book must
-//! count the visits of each node. The archive's answers go to goko, too.
+//! count the visits of each node and use as many entries as the least capacity is. The archive's answers go
+//! to goko, too.
 
 use crate::calls::{Archive, Held, Told};
 use cases::altered::AlteredAdd;
 use cases::baselines::{StatsAsked, Training};
 use cases::calls::{Call, CallList, Places, PriorBytes, Tables};
+use cases::exhaustive::Ordered;
 use cases::lookups::PriorsCase;
 use cases::play::{same_result, Answer, History, Player, Side};
 use compare::goko::{self, Beside};
-use compare::{must, Compared, Tally, Visited};
+use compare::{must, Compared, Laws, Played, Tally};
 use recount::{
     all_node_kl, check_priors, check_tables, evidence_prob_vector, kl_div_stats, memory,
     posterior_kl_divergence, prob_vector, same_figures, Address,
@@ -54,22 +56,35 @@ fn play(archive: &mut Archive, call: &Call, fill: u8) -> Told<Answer> {
 
 /// A call list.
 pub fn list(archive: &mut Archive, list: &CallList, tally: &mut Tally) -> Compared {
+    played(archive, list, tally).map(|_| ())
+}
+
+/// A list of paths in one of its orders.
+pub fn order(archive: &mut Archive, case: &Ordered, tally: &mut Tally) -> Compared {
+    played(archive, &case.list, tally)?.hold_order(case)
+}
+
+/// Gives what a call list came to.
+fn played(archive: &mut Archive, list: &CallList, tally: &mut Tally) -> Told<Played> {
     tally.lists += 1;
     let mut history = Player::new(History::default());
     let mut beside = Beside::default();
-    let mut visited = Visited::default();
+    let mut laws = Laws::default();
     let mut image: Option<Held> = None;
+    let mut numbers = Vec::new();
     archive.lend_tables(&Tables::default());
     archive.lend_priors(&PriorBytes::default());
     for (index, call) in list.calls.iter().enumerate() {
-        one_call(archive, call, list.fill, &mut history, &mut image, tally)
+        let number = one_call(archive, call, list.fill, &mut history, &mut image, tally)
             .and_then(|answer| {
-                visited.hold(call, &answer, archive.used_and_book(), &mut tally.met)?;
-                beside.hold(call, &answer, &history, &visited, tally)
+                laws.hold(call, &answer, archive.used_and_book(), &mut tally.met)?;
+                beside.hold(call, &answer, &history, &laws, tally)?;
+                Ok(answer.number())
             })
             .map_err(|text| format!("call {} of {:#?}\n{}", index, list, text))?;
+        numbers.push(number);
     }
-    Ok(())
+    Ok(Played { numbers, used: archive.used_and_book().0 })
 }
 
 /// Gives the archive's answer; `image` is what state, book and queue must be.

@@ -1,18 +1,22 @@
-//! Every short list, every short chain, the recorded sample, and cases at the limits: tables of 1, 2,
-//! 1,048,576 and 1,048,577 entries and a U at the last index, priors of the most records and one more,
-//! as many in scales of their own below a floor, chains of 62 to 65 with look-ups in them, books and
-//! queues at their largest sizes, long windows, 1,024 knots and one more.
+//! Every short list, also in every order, every short chain, the recorded sample, and cases at the limits:
+//! tables of 1, 2, 1,048,576 and 1,048,577 entries and a U at the last index, priors of the most records and
+//! one more, as many in scales of their own below a floor, chains of 62 to 65 with look-ups in them, books
+//! and queues at their largest sizes, the largest book full, long windows, 1,024 knots and one more.
 
 use crate::calls::Archive;
 use crate::check;
 use cases::baselines::Training;
 use cases::calls::{Call, CallList, Places, PriorBytes, Tables};
+use cases::exhaustive::Ordered;
 use cases::lists::{call_list, Shape};
 use cases::rng::Rng;
 use cases::{exhaustive, lookups, priors, sample, tables};
-use compare::{Compared, Tally};
-use recount::limits::{ENTRY_BYTES, KNOT_VALUES, MAX_CHAIN, MAX_CHILDREN, MAX_KNOTS, MAX_NODES, PLACE_BYTES};
-use recount::{path_bytes, record_bytes, Address};
+use compare::{must, Compared, Tally};
+use recount::limits::{
+    ENTRY_BYTES, KNOT_VALUES, MAX_CHAIN, MAX_CHILDREN, MAX_ENTRIES, MAX_KNOTS, MAX_NODES, MAX_STEPS,
+    PLACE_BYTES,
+};
+use recount::{least, path_bytes, record_bytes, Address};
 
 /// All of them.
 pub fn all(archive: &mut Archive, tally: &mut Tally) -> Compared {
@@ -31,11 +35,14 @@ pub fn all(archive: &mut Archive, tally: &mut Tally) -> Compared {
     }
     exhaustive::every_chain().iter().try_for_each(|case| check::lookups(archive, case, tally))?;
     exhaustive::each_short_list(|list| check::list(archive, list, tally))?;
+    let tried = exhaustive::each_order(|case| check::order(archive, case, tally))?;
+    tally.tried.join(tried);
     exhaustive::under_floors().iter().try_for_each(|lent| check::priors(archive, lent, tally))?;
     table_lengths(archive, tally)?;
     prior_sizes(archive, tally)?;
     widest_chains(archive, tally)?;
     scales_below_a_floor(archive, tally)?;
+    fullest_book(archive, tally)?;
     knots(archive, tally)?;
     [1_023, 1_024].iter().try_for_each(|window| {
         check::list(archive, &call_list(&mut Rng::new(u64::from(*window)), &Shape::long(*window)), tally)
@@ -143,6 +150,28 @@ fn scales_below_a_floor(archive: &mut Archive, tally: &mut Tally) -> Compared {
         calls.extend(asked.map(|node| Call::PosteriorKlDivergence { node }));
         calls.extend([Call::AllNodeKl { output }, Call::KlDivStats]);
         check::list(archive, &CallList { fill: 0, calls }, tally)?;
+    }
+    Ok(())
+}
+
+/// A list that needs as many entries as a book can have, and the same backwards; and both in a book of one
+/// entry less. Each path is of 64 new nodes, so of 127 entries, and one is of a single node.
+fn fullest_book(archive: &mut Archive, tally: &mut Tally) -> Compared {
+    let node = |number: usize| Address::new(number as i32 % 5 - 2, number as u32);
+    let path = |first: usize| (first..first + MAX_STEPS).map(node).collect();
+    let whole = MAX_ENTRIES / (2 * MAX_STEPS - 1);
+    let mut paths: Vec<Vec<Address>> = (0..whole).map(|number| path(MAX_STEPS * number)).collect();
+    paths.push(vec![node(MAX_STEPS * whole)]);
+    let least = least(&paths);
+    must(least == MAX_ENTRIES, || format!("the list needs {} entries", least))?;
+    for _ in 0..2 {
+        for capacity in [MAX_ENTRIES - 1, MAX_ENTRIES] {
+            let open = Call::Open { window: 1, book_len: ENTRY_BYTES * capacity, queue_len: PLACE_BYTES };
+            let adds = paths.iter().map(|path| Call::Add { path: path_bytes(path) });
+            let list = CallList { fill: 0xa5, calls: [open].into_iter().chain(adds).collect() };
+            check::order(archive, &Ordered { list, capacity, least }, tally)?;
+        }
+        paths.reverse();
     }
     Ok(())
 }

@@ -1,13 +1,14 @@
 //! What a day is and what it is held against, and what makes the judgement weaker than it looks:
 //! the first lines of the report and of the page.
 
-use crate::day::Day;
+use crate::day::{Day, MAX_ENTRIES};
 use crate::others::Others;
 use crate::training::Trained;
 use crate::usual::FAR;
-use crate::watched::{Tally, Watched};
+use crate::watched::{LeftOut, Place, Tally, Watched};
 use crate::words::number;
 use crate::work::EVERY;
+use teakpool::ENTRY_BYTES;
 
 /// Training sequences below which the spread is called rough.
 const FEW_SEQUENCES: u32 = 8;
@@ -16,7 +17,7 @@ const FEW_SEQUENCES: u32 = 8;
 pub fn facts(day: &Day, watched: &Watched) -> Vec<String> {
     let mut facts = vec![paths(day), baseline(watched)];
     facts.extend(others(day, watched));
-    facts.push(judged(watched));
+    facts.extend([judged(watched), book(watched)]);
     facts
 }
 
@@ -64,6 +65,32 @@ fn judged(watched: &Watched) -> String {
         text.push_str(&format!("; {} without a judgement", unjudged));
     }
     text
+}
+
+/// How many entries of a book the added paths need.
+fn book(watched: &Watched) -> String {
+    let count = |of: fn(&&Place) -> bool| watched.places.iter().filter(of).count();
+    let paths = match count(|place| !matches!(place, Place::LeftOut(_))) {
+        0 => return "book: empty, since no path is added".to_string(),
+        1 => "the path added".to_string(),
+        added => format!("the {} paths added, in any order", added),
+    };
+    let needed = match watched.used {
+        1 => format!("1 entry ({} bytes) is enough for {}", ENTRY_BYTES, paths),
+        used => {
+            let bytes = ENTRY_BYTES * used as usize;
+            format!("{} entries ({} bytes) are enough for {}, and fewer are not", used, bytes, paths)
+        }
+    };
+    let more = match count(|place| matches!(place, Place::LeftOut(LeftOut::BookFull))) {
+        0 => String::new(),
+        full => format!(
+            "; {} more did not fit, and no book has over {} entries",
+            number(full, "path"),
+            MAX_ENTRIES
+        ),
+    };
+    format!("book: {}{}", needed, more)
 }
 
 /// How far the training's own days go.

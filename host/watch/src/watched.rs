@@ -159,6 +159,8 @@ pub struct Watched {
     pub more_nodes: usize,
     /// Nodes without a prior.
     pub skipped: u32,
+    /// Entries that the added paths use in the book: the least capacity that takes them.
+    pub used: u32,
 }
 
 impl Watched {

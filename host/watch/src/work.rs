@@ -71,6 +71,7 @@ pub fn watch(day: &Day) -> Result<Watched, Problem> {
     let new_endings = [run.rates.new_endings(), run.known.new_endings()];
     let over_day = run.rates.over_day(&run.known, day.drift);
     let over_day_drifts = over_day.iter().any(|often| often.deviations > day.drift);
+    let used = run.tracker.state().used;
     let (stretches, found) = (run.stretches.done(), run.found.into_values().collect());
     Ok(Watched {
         trained,
@@ -83,6 +84,7 @@ pub fn watch(day: &Day) -> Result<Watched, Problem> {
         nodes,
         more_nodes,
         skipped,
+        used,
     })
 }
 
@@ -297,6 +299,36 @@ mod tests {
         let training = format!("sequence\n{}sequence\n{}day\npath 0/0", few, many);
         let text = "up to this path there are over 16384 nodes and transitions, more than a book holds";
         assert_eq!(problem(&training), (263, text.to_string()));
+    }
+
+    #[test]
+    fn the_book_that_the_added_paths_need_is_told() {
+        let tells = |day: &str, book: &str| assert_eq!(lines(day, "book: "), [format!("book: {}", book)]);
+        let one = "1 entry (24 bytes) is enough for the path added";
+        tells("day\npath 1/7\n", one);
+        let path = "day\npath 1/7 0/9\n";
+        tells(path, "3 entries (72 bytes) are enough for the path added, and fewer are not");
+        // Again, backwards, and from a node to itself. What has left the window stays in the book.
+        let day = format!("{}path 1/7 0/9\npath 0/9 1/7\npath 0/9 0/9\n", path);
+        let four = "5 entries (120 bytes) are enough for the 4 paths added, in any order, and fewer are not";
+        for head in ["", "window 1\n", "capacity 5\n"] {
+            tells(&format!("{}{}", head, day), four);
+        }
+        let mistakes =
+            read(format!("capacity 4\n{}", day).as_bytes()).expect_err("a capacity of 4 is too small");
+        assert_eq!(mistakes.lines(), ["line 1: a capacity of 4 is too small: the paths need 5 entries"]);
+        // What is left out is not in the book.
+        let left_out = "prior 1/7 1 0/7 2\nday\npath 1/7 0/8\n";
+        tells(left_out, "empty, since no path is added");
+        tells(&format!("{}path 1/7\n", left_out), one);
+        let many =
+            "16383 entries (393192 bytes) are enough for the 129 paths added, in any order, and fewer are not";
+        let told = |paths: u32, more: &str| {
+            tells(&format!("day\n{}", many_nodes(paths)), &format!("{}{}", many, more));
+        };
+        told(129, "");
+        told(130, "; 1 path more did not fit, and no book has over 16384 entries");
+        told(131, "; 2 paths more did not fit, and no book has over 16384 entries");
     }
 
     #[test]

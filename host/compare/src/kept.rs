@@ -1,0 +1,42 @@
+//! W, the book's capacity and H since the last accepted opening, kept from the calls and their answers alone.
+
+use cases::calls::Call;
+use cases::play::Answer;
+use recount::limits::ENTRY_BYTES;
+use recount::{steps, window_part, Address};
+
+/// What is kept.
+#[derive(Debug, Default)]
+pub struct Kept {
+    /// W, none before the first accepted opening.
+    window: Option<u32>,
+    /// The book's entries.
+    pub capacity: usize,
+    /// H.
+    pub paths: Vec<Vec<Address>>,
+}
+
+impl Kept {
+    /// Takes in a call and its answer: an accepted opening sets W and the capacity and empties H, an accepted
+    /// add appends its path to H, and nothing else changes them.
+    pub fn hear(&mut self, call: &Call, answer: &Answer) {
+        match (call, answer) {
+            (Call::Open { window, book_len, .. }, Answer::Changed(Ok(()))) => {
+                let capacity = book_len / ENTRY_BYTES;
+                *self = Kept { window: Some(*window), capacity, paths: Vec::new() };
+            }
+            (Call::Add { path }, Answer::Changed(Ok(()))) => self.paths.push(steps(path)),
+            _ => {}
+        }
+    }
+
+    /// Whether an opening was accepted.
+    pub fn opened(&self) -> bool {
+        self.window.is_some()
+    }
+
+    /// The window part.
+    pub fn window_part(&self) -> &[Vec<Address>] {
+        window_part(self.window.unwrap_or(0), &self.paths)
+    }
+}
