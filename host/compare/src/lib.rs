@@ -22,7 +22,7 @@ pub use kept::Kept;
 pub use laws::Laws;
 pub use met::Met;
 pub use orders::Played;
-pub use room::Room;
+pub use room::{hold_sequences, Room};
 pub use visited::{Total, Visited};
 
 use cases::exhaustive::Tried;

@@ -4,7 +4,7 @@
 //! least capacity is, an add on altered memory changes what it may and nothing else, and a child's look-up
 //! tells what a walk along the chain finds and reads.
 
-use crate::{Compared, Laws, Played, Tally};
+use crate::{hold_sequences, Compared, Laws, Played, Tally};
 use cases::altered::AlteredAdd;
 use cases::baselines::Training;
 use cases::calls::{Call, CallList, Places, PriorBytes};
@@ -163,6 +163,7 @@ pub fn check_training(training: &Training, tally: &mut Tally) -> Compared {
     let answer = after.run();
     tally.result(&answer);
     tally.met.training(training, answer);
+    hold_sequences(training, answer, &mut tally.met)?;
     match answer {
         Ok(count) => {
             let count = count as usize;

@@ -1,14 +1,16 @@
 //! Holds a tracker's used entries and its 12s to the least capacity, after every call from an accepted
 //! opening on, and tells what was met of both. The least capacity is told by H alone: by its different
-//! addresses and its different pairs of neighbours.
+//! addresses and its different pairs of neighbours. A training is held to that of the sequence which needs
+//! most.
 
 use crate::kept::Kept;
 use crate::met::Met;
 use crate::{must, Compared};
+use cases::baselines::Training;
 use cases::calls::Call;
 use cases::play::Answer;
-use recount::limits::{MAX_ACCEPTED, MAX_STEPS, STEP_BYTES};
-use recount::{least, steps, Address};
+use recount::limits::{ENTRY_BYTES, MAX_ACCEPTED, MAX_STEPS, STEP_BYTES};
+use recount::{least, steps, Address, Refusal};
 use std::collections::BTreeSet;
 
 const HELD: &str = "calls after which the used entries were held to the least capacity";
@@ -18,10 +20,13 @@ const AFTER_12: &str = "adds taken after a 12";
 const BY_LENGTH: &str = "adds taken with fewer than 2n - 1 entries free, for n steps";
 const BOTH_WAYS: &str = "paths taken that have a pair in both directions";
 const NEVER_ENDED: &str = "paths taken with a node that no path has ended at";
+const TRAINED_FULL: &str = "trainings finished in a book with no entry to spare";
+const TRAINING_LACKS_ONE: &str = "trainings stopped by 12 for whose sequences one entry is lacking";
 const WITH_GOKO: &str = "openings and adds after which goko has as many numbers as the least capacity";
 
 /// What is to be met without goko and with it.
-pub const MET: [&str; 7] = [HELD, FILLED, LACKS_ONE, AFTER_12, BY_LENGTH, BOTH_WAYS, NEVER_ENDED];
+pub const MET: [&str; 9] =
+    [HELD, FILLED, LACKS_ONE, AFTER_12, BY_LENGTH, BOTH_WAYS, NEVER_ENDED, TRAINED_FULL, TRAINING_LACKS_ONE];
 pub const MET_WITH_GOKO: [&str; 1] = [WITH_GOKO];
 
 /// What H tells of its room.
@@ -106,6 +111,21 @@ impl Room {
             format!("goko has {} numbers, the least capacity is {}", numbers, self.least)
         })
     }
+}
+
+/// A training that finishes has as many entries as each of its sequences needs, each being added after an
+/// opening of its own; one that 12 stops has fewer than some sequence needs.
+pub fn hold_sequences(training: &Training, answer: Result<u32, Refusal>, met: &mut Met) -> Compared {
+    let capacity = training.book.len() / ENTRY_BYTES;
+    let paths: Vec<Vec<Address>> = training.given_paths().collect();
+    let needed = paths.chunks(training.paths.max(1) as usize).map(least).max().unwrap_or(0);
+    let (finished, stopped) = (answer.is_ok(), matches!(answer, Err(Refusal { number: 12, .. })));
+    must(!(finished && needed > capacity || stopped && needed <= capacity), || {
+        format!("a training that needs {} entries came to {:?} in {}", needed, answer, capacity)
+    })?;
+    met.count(TRAINED_FULL, finished && needed == capacity);
+    met.count(TRAINING_LACKS_ONE, stopped && needed == capacity + 1);
+    Ok(())
 }
 
 /// One to 64 steps of eight bytes.

@@ -1,8 +1,9 @@
 //! What holds used entries and 12 to the least capacity, on answers that are wrong: each must be told.
 
-use cases::calls::Call;
+use cases::baselines::Training;
+use cases::calls::{Call, PriorBytes, Tables};
 use cases::play::{Answer, Bytes, Player, Side};
-use compare::{Kept, Met, Room};
+use compare::{hold_sequences, Kept, Met, Room};
 use recount::limits::{ENTRY_BYTES, MAX_STEPS, PLACE_BYTES};
 use recount::{path_bytes, Address, Refusal};
 
@@ -106,5 +107,39 @@ fn paths_that_are_not_whole() {
     let cut = Call::Add { path: path_bytes(&[ONE, TWO])[..15].to_vec() };
     for call in [add(&[]), add(&long), cut] {
         assert!(passes(one_add(), &call, 10, 3) && !passes(one_add(), &call, 10, 4), "{:?}", call);
+    }
+}
+
+/// Sequences of one path each: (ONE, TWO), which needs three entries, and (ONE, ONE), which needs two. Both
+/// after one opening would need four.
+fn training(capacity: usize) -> Training {
+    let place = |path: [Address; 2]| {
+        let mut place = [&2_u32.to_le_bytes()[..], &path_bytes(&path)].concat();
+        place.resize(PLACE_BYTES, 0);
+        place
+    };
+    Training {
+        tables: Tables::default(),
+        priors: PriorBytes::default(),
+        book: vec![0; ENTRY_BYTES * capacity],
+        sequences: 2,
+        paths: 1,
+        rate: 1,
+        places: [place([ONE, TWO]), place([ONE, ONE])].concat(),
+        knots: Vec::new(),
+        values: Vec::new(),
+    }
+}
+
+#[test]
+fn the_sequence_that_needs_most() {
+    let comes_to = |capacity: usize, number: u32| {
+        let answer = if number == 0 { Ok(1) } else { Err(Refusal::plain(number)) };
+        hold_sequences(&training(capacity), answer, &mut Met::default()).is_ok()
+    };
+    for capacity in 1..6 {
+        assert_eq!(comes_to(capacity, 0), capacity >= 3, "finished in {} entries", capacity);
+        assert_eq!(comes_to(capacity, 12), capacity < 3, "stopped by 12 in {} entries", capacity);
+        assert!(comes_to(capacity, 14), "another number says nothing about the book");
     }
 }

@@ -13,31 +13,31 @@ const TWO: Address = Address::new(0, 3);
 const READING: Call = Call::KlDivStats;
 
 /// Lent bytes, and what holds them to the visits.
-struct Played {
+struct Held {
     player: Player<Bytes>,
     kept: Kept,
     visited: Visited,
 }
 
 /// Plays calls on lent bytes, each held to the visits.
-fn played(calls: &[Call]) -> Played {
+fn held(calls: &[Call]) -> Held {
     let player = Player::new(Bytes::filled(0xa5));
-    let mut played = Played { player, kept: Kept::default(), visited: Visited::default() };
+    let mut held = Held { player, kept: Kept::default(), visited: Visited::default() };
     for call in calls {
-        let Played { player, kept, visited } = &mut played;
+        let Held { player, kept, visited } = &mut held;
         let answer = player.play(call);
         let (used, book) = (player.side.state().used, player.side.book());
         kept.hear(call, &answer);
-        let held = visited.hold(kept, call, &answer, (used, &book), &mut Met::default());
-        held.expect("the bytes count the visits");
+        let counted = visited.hold(kept, call, &answer, (used, &book), &mut Met::default());
+        counted.expect("the bytes count the visits");
     }
-    played
+    held
 }
 
 /// Window 1: the path (ONE, TWO, ONE) has left it, the path (TWO, TWO) is in it. The used entries are ONE's
 /// ending with 0, ONE to TWO with 0, TWO's ending with 1, TWO to ONE with 0 and TWO to TWO with 1.
-fn two_adds() -> Played {
-    played(&[
+fn two_adds() -> Held {
+    held(&[
         Call::Open { window: 1, book_len: 6 * ENTRY_BYTES, queue_len: PLACE_BYTES },
         Call::Add { path: path_bytes(&[ONE, TWO, ONE]) },
         Call::Add { path: path_bytes(&[TWO, TWO]) },
@@ -45,8 +45,8 @@ fn two_adds() -> Played {
 }
 
 /// Whether entries in place of those that the bytes have pass.
-fn passes(played: Played, used: u32, book: &[u8]) -> bool {
-    let Played { mut player, kept, mut visited } = played;
+fn passes(held: Held, used: u32, book: &[u8]) -> bool {
+    let Held { mut player, kept, mut visited } = held;
     let answer = player.play(&READING);
     visited.hold(&kept, &READING, &answer, (used, book), &mut Met::default()).is_ok()
 }
@@ -94,6 +94,6 @@ fn a_node_that_is_not_listed() {
 #[test]
 fn entries_after_an_opening() {
     let book = two_adds().player.side.book();
-    let anew = || played(&[Call::Open { window: 1, book_len: 6 * ENTRY_BYTES, queue_len: PLACE_BYTES }]);
+    let anew = || held(&[Call::Open { window: 1, book_len: 6 * ENTRY_BYTES, queue_len: PLACE_BYTES }]);
     assert!(passes(anew(), 0, &book) && !passes(anew(), 5, &book));
 }

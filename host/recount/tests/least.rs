@@ -1,6 +1,6 @@
 //! The least capacity, worked by hand: different addresses and different pairs of neighbours, a pair having
 //! an order. A book of as many entries takes a list in any order; a smaller one answers some add with 12
-//! and takes the others, in the history and on lent bytes alike.
+//! and takes each that it does not, in the history and on lent bytes alike.
 
 use recount::limits::{ENTRY_BYTES, MAX_WINDOW, PLACE_BYTES};
 use recount::*;
@@ -8,14 +8,6 @@ use recount::*;
 const ONE: Address = Address::new(2, 1);
 const TWO: Address = Address::new(1, 1);
 const THREE: Address = Address::new(-1, 7);
-
-fn plain(paths: &[&[Address]]) -> Vec<Vec<Address>> {
-    paths.iter().map(|path| path.to_vec()).collect()
-}
-
-fn least_of(paths: &[&[Address]]) -> usize {
-    least(&plain(paths))
-}
 
 /// The numbers that adds of these paths are answered, and the entries used after them.
 fn added(window: u32, capacity: usize, paths: &[&[Address]]) -> (Vec<u32>, usize) {
@@ -34,25 +26,26 @@ fn added(window: u32, capacity: usize, paths: &[&[Address]]) -> (Vec<u32>, usize
     (numbers, state.used as usize)
 }
 
-/// The list needs `least` entries: these take it, and with one less it is answered as `short` says.
-fn needs(paths: &[&[Address]], least: usize, short: &[u32]) {
-    assert_eq!(least_of(paths), least);
+/// The list needs `needed` entries: these take it, and with one less it is answered as `short` says.
+fn needs(paths: &[&[Address]], needed: usize, short: &[u32]) {
+    assert_eq!(least(paths), needed);
     let backwards: Vec<&[Address]> = paths.iter().rev().copied().collect();
     for window in [0, 1, 2, MAX_WINDOW] {
         for order in [paths, &backwards] {
-            for capacity in [least, least + 1] {
-                assert_eq!(added(window, capacity, order), (vec![0; paths.len()], least));
+            for capacity in [needed, needed + 1] {
+                assert_eq!(added(window, capacity, order), (vec![0; paths.len()], needed));
             }
         }
-        if least > 1 {
-            assert_eq!(added(window, least - 1, paths).0, short);
+        if needed > 1 {
+            assert_eq!(added(window, needed - 1, paths).0, short);
         }
     }
 }
 
 #[test]
 fn addresses_and_pairs() {
-    assert_eq!(least_of(&[]), 0);
+    let none: [&[Address]; 0] = [];
+    assert_eq!(least(&none), 0);
     needs(&[&[ONE]], 1, &[]);
     needs(&[&[ONE, TWO]], 3, &[12]);
     needs(&[&[ONE, TWO, THREE]], 5, &[12]);

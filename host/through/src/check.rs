@@ -11,7 +11,7 @@ use cases::exhaustive::Ordered;
 use cases::lookups::PriorsCase;
 use cases::play::{same_result, Answer, History, Player, Side};
 use compare::goko::{self, Beside};
-use compare::{must, Compared, Laws, Played, Tally};
+use compare::{hold_sequences, must, Compared, Laws, Played, Tally};
 use recount::{
     all_node_kl, check_priors, check_tables, evidence_prob_vector, kl_div_stats, memory,
     posterior_kl_divergence, prob_vector, same_figures, Address,
@@ -201,6 +201,7 @@ pub fn training(archive: &mut Archive, training: &Training, tally: &mut Tally) -
     must(recounted == answer, || format!("{:#?}\n{}", training, differ("answer", recounted, answer)))?;
     let same = ours.book == left.book && ours.knots == left.knots && same_figures(&ours.values, &left.values);
     must(same, || format!("{:#?}\n{}", training, differ("book, knots and values", &ours, &left)))?;
+    hold_sequences(training, answer, &mut tally.met)?;
     goko::hold_training(training, &left, answer, tally)
 }
 
