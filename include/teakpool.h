@@ -79,15 +79,15 @@
  *     then kind, then child, and each node begins with its ending;
  *   - lengths of 1 to 64 in the filled places of the queue, the lesser of window and paths accepted.
  * The test reads nothing else. In memory altered by others that has the form, an add that takes away from a count of 0 leaves 0 and
- * passes over an entry that is missing.
+ * passes over an entry that is missing, and a tidy goes by the counts alone.
  *
  * Visits. A node's evidence total is the counts of its used entries together, its ending's and its children's. From an accepted
- * opening on, and after any openings, adds and readings, refused ones included, it may be read as the node's visits: how often the
- * paths of the window come to it, each path that begins at it being one, and each step to it from another or from itself one more.
- * So a path that meets a node twice visits it twice, and a listed node's total is 0 exactly where no path of the window holds it; one
- * that is not listed has no visits. All counts of the book together are the steps of the window's paths. These are the last paths
- * accepted since the last accepted opening, up to its window, or all of them where that is 0: a path that has left the window no
- * longer counts. examples/c/visits.c reads visits from a book.
+ * opening on, and after any openings, adds, tidies and readings, refused ones included, it may be read as the node's visits: how
+ * often the paths of the window come to it, each path that begins at it being one, and each step to it from another or from itself
+ * one more. So a path that meets a node twice visits it twice, and a listed node's total is 0 exactly where no path of the window
+ * holds it; one that is not listed has no visits. All counts of the book together are the steps of the window's paths. These are the
+ * last paths accepted since the last accepted opening, up to its window, or all of them where that is 0: a path that has left the
+ * window no longer counts. examples/c/visits.c reads visits from a book.
  * The total may not be read so where anything else wrote into state, book or queue, a training that was lent the book included, or
  * where a call gets them otherwise than the last one left them: the form does not hold counts against the queue, and every count is
  * taken as it stands. The bytes of all three, saved together and put back together, go on as if nothing had come between; a copy of
@@ -96,10 +96,11 @@
  * How to live with 14 and 15. Both come up in a reading, after the path that brings them was added.
  *   14  The node went on to a child that its prior does not have. A transition never seen in the prior is the strongest drift there
  *       is: its divergence would be infinite. Once the path is in the book, every later teakpool_all_node_kl and
- *       teakpool_kl_div_stats is refused, even when the path has left the window, because a zero count keeps its entry; only an
- *       opening anew helps. So try each path by itself before it is added (teakpool_try_path below does it), report 14 with its node
- *       as a finding, and do not add the path; teakpool_child, asked for each step that comes right after the node, tells which one
- *       its prior does not have. Where a transition is rare but known, give it a count of 1 in the prior.
+ *       teakpool_kl_div_stats is refused, even when the path has left the window, because a zero count keeps its entry. A
+ *       teakpool_tidy helps when no path of the window has the transition any more, an opening anew at once. So try each path by
+ *       itself before it is added (teakpool_try_path below does it), report 14 with its node as a finding, and do not add the path;
+ *       teakpool_child, asked for each step that comes right after the node, tells which one its prior does not have. Where a
+ *       transition is rare but known, give it a count of 1 in the prior.
  *   15  The tables end before a node's prior total plus its evidence total. Each occurrence of a node in the window is 1 of its
  *       evidence total. So with T the greatest prior total, W the window and L the steps of the longest path, a table needs
  *       T + W x L + 1 entries, index 0 included; T + W + 1 if no path meets a node twice. With a window of 0, and in a training, the
@@ -113,9 +114,9 @@
 
 /* The version of this header; teakpool_version() tells that of the archive. CHANGELOG.md says what counts as a break. */
 #define TEAKPOOL_VERSION_MAJOR 0u
-#define TEAKPOOL_VERSION_MINOR 3u
-#define TEAKPOOL_VERSION_PATCH 2u
-#define TEAKPOOL_VERSION_STRING "0.3.2"
+#define TEAKPOOL_VERSION_MINOR 4u
+#define TEAKPOOL_VERSION_PATCH 0u
+#define TEAKPOOL_VERSION_STRING "0.4.0"
 #define TEAKPOOL_VERSION (1000000u * TEAKPOOL_VERSION_MAJOR + 1000u * TEAKPOOL_VERSION_MINOR + TEAKPOOL_VERSION_PATCH)
 
 /* A call's answer is to be looked at, and none of its pointers is NULL. */
@@ -228,19 +229,37 @@ uint32_t teakpool_child(const uint8_t *nodes, size_t nodes_length, const uint8_t
  * Paths that are answered 10 need no entry; where 12 comes, no book takes all of them. For a watch that goes on from day to day add
  * all days after one opening; one that is opened anew each day needs the greatest number of any day. For p paths of s steps in all
  * it is at most 2s - p. examples/c/memory.c sizes a book.
+ * All this is of adds alone. With tidies less may serve, and state[1] no longer tells what all paths need. Where a tidy follows each
+ * 12 and the path is added again, a book needs the entries of W + 1 paths in a row, wherever these need most, W being the window, 1
+ * or more; docs/RULES.md, section 10, says how to find that number.
  * Limits: window 0 to 1,024; book_length a multiple of 24, 24 to 393,216; queue_length at least 516 x window.
  * Refused: 8 for the window; 9 for book_length or queue_length. The state before a refused opening stands. */
 TEAKPOOL_CALL
 uint32_t teakpool_open(uint32_t window, uint8_t *book, size_t book_length, uint8_t *queue, size_t queue_length, uint32_t state[3]);
 
 /* Adds a path and takes the oldest past the window away. Each neighbouring pair of steps adds 1 to that child under that node, the
- * last step adds 1 to its node's ending. A zero count keeps its entry. state is window, entries used, paths accepted.
+ * last step adds 1 to its node's ending. A zero count keeps its entry until a tidy. state is window, entries used, paths accepted.
  * Limits: path_length a multiple of 8, 8 to 512; at most 16,777,216 paths accepted after an opening.
  * Refused: 9 if the form is broken; 10 for path_length; 11 if 16,777,216 paths are accepted; 12 if the listed nodes and transitions,
- * those of the path included, would exceed the capacity. */
+ * those of the path included, would exceed the capacity. Where paths have left the window, a tidy may make room. */
 TEAKPOOL_CALL
 uint32_t teakpool_add_path(uint32_t state[3], uint8_t *book, size_t book_length, uint8_t *queue, size_t queue_length,
                            const uint8_t *path, size_t path_length);
+
+/* Tidies a book: drops every child entry with a count of 0 and every node whose ending and children are all 0, closes the gaps, and
+ * zeroes the book from there to its end. state[1], entries used, becomes the number kept. The window, the paths accepted, the
+ * sequence length and all counts stay; the queue is only read, for the form. Later paths may use the places.
+ * From an accepted opening on, a node with its ending, or a child entry, is then listed exactly where that node or transition stood
+ * in the window at the last tidy or stands in a path accepted since, and 12 counts what is listed that way. So after an opening with
+ * a window of 0 a tidy changes nothing, and neither does a second one right after the first.
+ * Readings afterwards: a child that was dropped has no place in teakpool_evidence_prob_vector, and in teakpool_prob_vector only the
+ * prior's. A node that was dropped is neither among the divergences nor skipped. A 14 for such a child or a 15 for such a node is
+ * gone, and other figures may differ by rounding, since terms that cancelled are gone too. goko has no such call. examples/c/tidy.c
+ * tidies a full book.
+ * Limits: those of the form.
+ * Refused: 9 if the form is broken. */
+TEAKPOOL_CALL
+uint32_t teakpool_tidy(uint32_t state[3], uint8_t *book, size_t book_length, const uint8_t *queue, size_t queue_length);
 
 /* The readings below change no tracker. A place of an output is an address, 8 bytes of `addresses`, and a figure, one of `figures`;
  * 13 tests the slice with fewer whole places. An answer fills places from 0 up; places past it keep what they held. */
@@ -607,6 +626,12 @@ static inline uint32_t teakpool_tracker_add_path(struct teakpool_tracker *tracke
 {
     return teakpool_add_path(tracker->state, tracker->book.at, tracker->book.length, tracker->queue.at, tracker->queue.length,
                              path.at, path.length);
+}
+
+TEAKPOOL_CALL
+static inline uint32_t teakpool_tracker_tidy(struct teakpool_tracker *tracker)
+{
+    return teakpool_tidy(tracker->state, tracker->book.at, tracker->book.length, tracker->queue.at, tracker->queue.length);
 }
 
 TEAKPOOL_CALL

@@ -106,6 +106,12 @@ uint32_t teakpool_add_path(uint32_t state[3], uint8_t *book_at, size_t book_leng
     return answer >= TEAKPOOL_MISSING_CHILD ? TEAKPOOL_DONE : answer;
 }
 
+uint32_t teakpool_tidy(uint32_t state[3], uint8_t *book_at, size_t book_length, const uint8_t *queue_at, size_t queue_length)
+{
+    tracker_seen(state, book_at, book_length, queue_at, queue_length);
+    return answer;
+}
+
 /* What both readings of probabilities take last. */
 static void vector_seen(int32_t scale, uint32_t point, uint8_t *addresses_at, size_t addresses_length, double *figures_at,
                         size_t figures_length, uint32_t *places, double *ending)
@@ -287,6 +293,8 @@ static void on_priors_and_trackers(void)
     HANDED("what teakpool_check_priors is handed", PRIORS);
     expect(teakpool_priors_child(priors, node, teakpool_make_address(-28, 29), &found) == answer, "teakpool_priors_child");
     HANDED("what teakpool_child is handed", PRIORS, NODE, (uint64_t)(int64_t)-28, 29, place(&found.count), place(&found.read));
+    expect(teakpool_tracker_tidy(&tracker) == answer, "teakpool_tracker_tidy");
+    HANDED("what teakpool_tidy is handed", TRACKER);
     expect(teakpool_tracker_prob_vector(&tracker, priors, node, output, &vector) == answer, "teakpool_tracker_prob_vector");
     HANDED("what teakpool_prob_vector is handed", TRACKER, PRIORS, NODE, OUTPUT, place(&vector.places), place(&vector.ending));
     expect(teakpool_tracker_evidence_prob_vector(&tracker, node, output, &vector) == answer, "teakpool_tracker_evidence_prob_vector");

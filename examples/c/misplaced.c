@@ -17,7 +17,7 @@ uint32_t misplaced(struct teakpool_tracker *tracker, struct teakpool_priors prio
     *tracker = teakpool_make_tracker(tracker->book, tracker->queue);
     output = teakpool_make_output(output.addresses, output.figures, output.places);
     *sequences = teakpool_make_sequences(sequences->at, sequences->length, sequences->s, sequences->n, sequences->rate);
-    if (teakpool_priors_child(priors, node, node, found) != TEAKPOOL_DONE) {
+    if (teakpool_priors_child(priors, node, node, found) != TEAKPOOL_DONE || teakpool_tracker_tidy(tracker) != TEAKPOOL_DONE) {
         return TEAKPOOL_NONE;
     }
 #elif CASE == 1  /* the two tables */
@@ -58,6 +58,14 @@ uint32_t misplaced(struct teakpool_tracker *tracker, struct teakpool_priors prio
     return teakpool_priors_child(priors, node, node, list);
 #elif CASE == 19 /* a child's count, whether there is one or not */
     teakpool_priors_child(priors, node, node, found);
+#elif CASE == 20 /* a tidy that may have been refused */
+    teakpool_tracker_tidy(tracker);
+#elif CASE == 21 /* a book, and not its tracker, to be tidied */
+    return teakpool_tracker_tidy(&tracker->book);
+#elif CASE == 22 /* a tracker that is only to be read */
+    return teakpool_tracker_tidy((const struct teakpool_tracker *)tracker);
+#elif CASE == 23 /* no queue in a plain tidy */
+    return teakpool_tidy(tracker->state, tracker->book.at, tracker->book.length, NULL, 0);
 #else
 #error "there is no such case"
 #endif

@@ -1,5 +1,5 @@
-/* Runs the lines of the README's example for C, which test.sh takes from there: a path that the prior knows is added and read, and
- * one that it does not know is told and stays out. */
+/* Runs the lines of the README's example for C, which test.sh takes from there: a path that the prior knows is added and read, one
+ * that it does not know is told and stays out, and more different paths are added than the book holds. */
 #include "teakpool.h"
 #include "bytes.h"
 
@@ -32,6 +32,15 @@ int main(void)
     teakpool_put_address(steps + TEAKPOOL_STEP_SIZE, teakpool_make_address(0, 8));
     expect(watch(&tracker, priors, tables, path, &now) == TEAKPOOL_MISSING_CHILD, "a transition that it does not know");
     expect(now.node.scale == 1 && now.node.point == 7 && tracker.state[2] == 1, "its node is told, and the path is not added");
+    /* Two nodes without a prior and a transition each: the book has room for 20 of these, and again when it is tidied. */
+    for (uint32_t i = 1; i <= 100; i++) {
+        teakpool_put_address(steps, teakpool_make_address(3, i));
+        teakpool_put_address(steps + TEAKPOOL_STEP_SIZE, teakpool_make_address(2, i));
+        expect(watch(&tracker, priors, tables, path, &now) == TEAKPOOL_DONE && tracker.state[2] == 1 + i, "one more path");
+        expect(now.number == (i < 8 ? 1u : 0u), "the first path leaves the window");
+    }
+    /* The last of the tidies made room for path 99. */
+    expect(tracker.state[1] == 3 * (8 + 2) && now.skipped == 2 * (8 + 2), "the window's eight paths before it, and two more");
     if (failures == 0) {
         printf("readme: the README's lines for C do what they say\n");
     }

@@ -315,11 +315,21 @@ static void full_trackers(void)
     expect(state[2] == 0 && is_filled(book, 48, 0), "a refused add leaves state and book");
 }
 
-/* Any reading tests the form. */
+/* Any reading tests the form. So does a tidy, which leaves all where it is refused. */
 static uint32_t read_form(size_t book_length, size_t queue_length)
 {
-    return teakpool_evidence_prob_vector(state, book, book_length, queue, queue_length, 1, 7, addresses, sizeof addresses, figures,
-                                         2, &places, &ending);
+    uint32_t own[3];
+    uint8_t own_book[sizeof book];
+    memcpy(own, state, sizeof own);
+    memcpy(own_book, book, sizeof own_book);
+    uint32_t code = teakpool_evidence_prob_vector(state, book, book_length, queue, queue_length, 1, 7, addresses, sizeof addresses,
+                                                  figures, 2, &places, &ending);
+    uint32_t tidied = teakpool_tidy(own, own_book, book_length, queue, queue_length);
+    expect(tidied == code, "a tidy refuses what a reading refuses by the form");
+    if (tidied != TEAKPOOL_DONE) {
+        expect(memcmp(own, state, sizeof own) == 0 && memcmp(own_book, book, sizeof own_book) == 0, "a tidy that is refused");
+    }
+    return code;
 }
 
 static void form_of_state(void)

@@ -78,6 +78,21 @@ static void add(const uint8_t *path, size_t length, uint32_t used, uint32_t acce
     expect(state[0] == 1 && state[1] == used && state[2] == accepted, "the state after an add");
 }
 
+/* The ending of (1,7) has a count, its child and the ending of (0,9) have none. */
+static void tidy(void)
+{
+    static const uint8_t ending_of_1_7[TEAKPOOL_ENTRY_SIZE] = {1, 0, 0, 0, 7, [20] = 1};
+    uint8_t before[sizeof queue];
+    memcpy(before, queue, sizeof queue);
+    expect(teakpool_tidy(state, book, sizeof book, queue, sizeof queue) == TEAKPOOL_DONE, "a tidy");
+    expect(state[0] == 1 && state[1] == 1 && state[2] == 2, "the state after a tidy");
+    expect(memcmp(book, ending_of_1_7, sizeof ending_of_1_7) == 0, "the entry that is kept");
+    for (size_t i = TEAKPOOL_ENTRY_SIZE; i < sizeof book; i++) {
+        expect(book[i] == 0, "zeros behind it");
+    }
+    expect(memcmp(queue, before, sizeof queue) == 0, "the queue");
+}
+
 static void small_books(const uint8_t *path, size_t length)
 {
     uint8_t small[3 * TEAKPOOL_ENTRY_SIZE];
@@ -102,7 +117,7 @@ static void read_one_divergence(double divergence)
     expect(code == TEAKPOOL_NONE && same(value, divergence), "(0,9) has no prior: none, and nothing is written");
 }
 
-static void read_all_divergences(double divergence)
+static void read_all_divergences(double divergence, uint32_t skipped)
 {
     uint8_t addresses[2 * TEAKPOOL_STEP_SIZE];
     double figures[2] = {-1.0, -1.0};
@@ -113,12 +128,12 @@ static void read_all_divergences(double divergence)
                                          sizeof children, INT32_MIN, g, 8, d, 8, addresses, sizeof addresses, figures, 2, counts,
                                          &node_scale, &node_point);
     expect(code == TEAKPOOL_DONE, "the divergences of all nodes");
-    expect(counts[0] == 1 && counts[1] == 1, "one place filled, one node skipped");
+    expect(counts[0] == 1 && counts[1] == skipped, "one place filled, and nodes skipped");
     expect(is_address(addresses, 1, 7) && same(figures[0], divergence) && same(figures[1], -1.0), "the place of (1,7)");
     expect(node_scale == -5 && node_point == 5, "no node is named");
 }
 
-static void read_statistics(double divergence)
+static void read_statistics(double divergence, uint32_t skipped)
 {
     double figures[4] = {0.0, 0.0, 0.0, 0.0};
     uint64_t counts[3] = {9, 9, 9};
@@ -129,7 +144,7 @@ static void read_statistics(double divergence)
     expect(code == TEAKPOOL_DONE, "the statistics");
     expect(same(figures[0], divergence) && same(figures[1], divergence), "maximum and minimum");
     expect(same(figures[2], divergence) && same(figures[3], divergence * divergence), "sum and sum of squares");
-    expect(counts[0] == 1 && counts[1] == 1 && counts[2] == 1, "one above 1.0e-10, of length 1, one skipped");
+    expect(counts[0] == 1 && counts[1] == 1 && counts[2] == skipped, "one above 1.0e-10, of length 1, and nodes skipped");
     expect(node_scale == -5 && node_point == 5, "no node is named");
 }
 
@@ -160,7 +175,17 @@ static void read_probabilities(void)
     expect(is_address(addresses, 0, 7) && is_address(addresses + TEAKPOOL_STEP_SIZE, 0, 9), "the children ascend");
     code = teakpool_evidence_prob_vector(state, book, sizeof book, queue, sizeof queue, 0, 9, addresses, sizeof addresses, figures,
                                          2, &places, &ending);
-    expect(code == TEAKPOOL_NONE && places == 2, "the evidence of (0,9), which is listed with a total of 0: none");
+    expect(code == TEAKPOOL_NONE && places == 2, "the evidence of (0,9), listed with a total of 0 or not listed: none");
+}
+
+/* What is read after the second path, and once more when the book is tidied: but for the nodes skipped it is the same. */
+static void read_second(uint32_t skipped)
+{
+    read_one_divergence(10.0);
+    read_all_divergences(10.0, skipped);
+    read_statistics(10.0, skipped);
+    read_short_tables();
+    read_probabilities();
 }
 
 /* Four paths in a tracker of window 0, all from (1,7): to (0,9), to (-1,3), one of a single step, and to (0,9) again. */
@@ -265,14 +290,12 @@ int main(void)
     open_tracker();
     add(path, sizeof path, 3, 1);
     read_one_divergence(6.0);
-    read_all_divergences(6.0);
-    read_statistics(6.0);
+    read_all_divergences(6.0, 1);
+    read_statistics(6.0, 1);
     add(path, TEAKPOOL_STEP_SIZE, 3, 2);
-    read_one_divergence(10.0);
-    read_all_divergences(10.0);
-    read_statistics(10.0);
-    read_short_tables();
-    read_probabilities();
+    read_second(1);
+    tidy();
+    read_second(0);
     small_books(path, sizeof path);
     read_evidence();
     train_and_ask();

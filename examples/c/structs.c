@@ -64,6 +64,7 @@ static void open_and_add(uint32_t point)
     tracker = teakpool_make_tracker(teakpool_make_book(book_bytes, sizeof book_bytes),
                                     teakpool_make_queue(queue_bytes, sizeof queue_bytes));
     expect(teakpool_tracker_add_path(&tracker, path) == TEAKPOOL_FORM, "an add to a tracker that is not open");
+    expect(teakpool_tracker_tidy(&tracker) == TEAKPOOL_FORM, "a tidy of a tracker that is not open");
     expect(teakpool_tracker_open(&tracker, 3) == TEAKPOOL_DONE, "an opening");
     expect(teakpool_tracker_add_path(&tracker, path) == TEAKPOOL_DONE, "an add");
     expect(teakpool_tracker_add_path(&tracker, end) == TEAKPOOL_DONE, "a second add");
@@ -162,6 +163,25 @@ static void named(uint32_t number, const char *what)
     expect(now.node.scale == 1 && now.node.point == 7 && same(now.maximum, 0.0) && now.skipped == 0, "the node in statistics");
 }
 
+/* Of the three paths the first leaves the window, and nothing but (-1,3) is left in it. */
+static void tidied(void)
+{
+    uint8_t plain_book[sizeof book_bytes];
+    uint32_t plain_state[3];
+    open_and_add(9);
+    expect(teakpool_tracker_add_path(&tracker, teakpool_make_path(path_bytes + 2 * TEAKPOOL_STEP_SIZE, TEAKPOOL_STEP_SIZE)) ==
+               TEAKPOOL_DONE,
+           "a fourth add");
+    memcpy(plain_book, book_bytes, sizeof plain_book);
+    memcpy(plain_state, tracker.state, sizeof plain_state);
+    expect(teakpool_tracker_tidy(&tracker) == TEAKPOOL_DONE, "a tidy");
+    expect(teakpool_tidy(plain_state, plain_book, sizeof plain_book, queue_bytes, sizeof queue_bytes) == TEAKPOOL_DONE,
+           "the same, plain");
+    expect(tracker.state[0] == 3 && tracker.state[1] == 1 && tracker.state[2] == 4, "one entry of five is kept");
+    expect(memcmp(plain_state, tracker.state, sizeof plain_state) == 0 && memcmp(plain_book, book_bytes, sizeof plain_book) == 0,
+           "the state and the book");
+}
+
 static void tried(size_t entries, struct teakpool_path path, uint32_t number, int names, const char *what)
 {
     struct teakpool_address at = {-5, 5};
@@ -237,6 +257,7 @@ static void nothing_lent(void)
     expect(teakpool_tracker_open(&tracker, 0) == TEAKPOOL_DONE, "no queue");
     expect(teakpool_tracker_add_path(&tracker, teakpool_make_path(NULL, 0)) == TEAKPOOL_PATH_LENGTH, "no path");
     expect(teakpool_tracker_add_path(&tracker, path_by(9)) == TEAKPOOL_DONE, "an add without a queue");
+    expect(teakpool_tracker_tidy(&tracker) == TEAKPOOL_DONE && tracker.state[1] == 5, "a tidy without a queue: nothing leaves");
     expect(teakpool_tracker_all_node_kl(&tracker, no_priors, tables, no_output, &list) == TEAKPOOL_DONE, "no output");
     expect(list.places == 0 && list.skipped == 3, "every node is skipped");
     sequences = teakpool_make_sequences(NULL, 0, teakpool_make_s(1), teakpool_make_n(0), teakpool_make_rate(1));
@@ -276,6 +297,8 @@ static void something_missing(void)
            "a child where its records are missing");
     tracker = teakpool_make_tracker(no_book, queue);
     expect(teakpool_tracker_open(&tracker, 1) == TEAKPOOL_FORM, "a missing book");
+    tracker.state[0] = 0;
+    expect(teakpool_tracker_tidy(&tracker) == TEAKPOOL_FORM && tracker.state[0] == 0, "no book to tidy");
     expect(teakpool_baseline_train(&baseline, priors, tables, sequences, no_book) == TEAKPOOL_FORM, "no book to train in");
     tracker = teakpool_make_tracker(teakpool_make_book(book_bytes, sizeof book_bytes),
                                     teakpool_make_queue(NULL, sizeof queue_bytes));
@@ -326,6 +349,7 @@ int main(void)
     lend(LENGTH - 1);
     open_and_add(8);
     named(TEAKPOOL_MISSING_CHILD, "a child that the prior does not have");
+    tidied();
     trials();
     baselines();
     nothing_lent();

@@ -11,7 +11,7 @@ use Rattle.priors.specs.Priors.{lentPriors}
 use Rattle.book.specs.Path.{pathOf}
 use Rattle.book.specs.Calls.{unlessRefused}
 use Rattle.book.specs.Figures.{All}
-use Rattle.book.specs.Claims.{Recount, openRefusal, addRefusal, restarted, joined, recountStep, runs}
+use Rattle.book.specs.Claims.{Recount, since, openRefusal, addRefusal, restarted, joined, recountStep, runs}
 use Rattle.divergence.specs.declared.statistics.KLDivergenceStats.{KLDivergenceStats}
 use Rattle.divergence.specs.Readings.{Reading, refused, nothing, answered, mapped, Statistics}
 use Rattle.divergence.specs.Asked.{statsAsked}
@@ -60,7 +60,7 @@ records-are x first r i (suc m) = go (addRefusal r path) (eqb (i % x .rate) 0) (
         → unlessStopped n (recordsIn (runs recounted (unlessRefused n after r) (cond b (read (klDivStats (lentTables (x .G) (x .D)) (lentPriors (x .nodes) (x .children) (x .floor))) ∷ rest) rest) .0))
         ≡ unlessStopped n (cond b (andThen (recountStats x after) (recordsFrom x first after (suc i) m)) (recordsFrom x first after (suc i) m))
     go (suc n) b ih = refl
-    go zero true ih = record-told (statsAsked (recountSeen (after .window) (after .paths)) (lentTables (x .G) (x .D)) (lentPriors (x .nodes) (x .children) (x .floor))) (recordsIn (runs recounted after rest .0)) ∙ ap (λ (u : Until (List KLDivergenceStats)). andThen (recountStats x after) u) ih
+    go zero true ih = record-told (statsAsked (recountSeen (after .window) (after .paths) (since after)) (lentTables (x .G) (x .D)) (lentPriors (x .nodes) (x .children) (x .floor))) (recordsIn (runs recounted after rest .0)) ∙ ap (λ (u : Until (List KLDivergenceStats)). andThen (recountStats x after) u) ih
     go zero false ih = ih
 
 opened-records : (x : Input) (r : Recount) (book : List ℕ) → openRefusal 0 (length book) 0 ≡ 0 → (q : ℕ) → recordsIn (runs recounted r (sequenceCalls x book q) .0) ≡ sequenceRecords x (length book) q

@@ -21,6 +21,7 @@ use Rattle.book.specs.Recount.{enterAll, listing, rowsOf, windowPart, sequenceL
 use Rattle.book.specs.Figures.{All}
 use Rattle.book.specs.Claims.{openRefusal, addRefusal, joined}
 use Rattle.book.proofs.Passes.{leavingPath}
+use Rattle.book.proofs.Window.{window-drop, all-drop}
 use Rattle.book.proofs.EntryLaws.{length-rows}
 use Rattle.book.proofs.Image.{ascends-rows}
 use Rattle.book.proofs.Step.{rows-step}
@@ -51,11 +52,6 @@ all-take : {X : Type 0} (P : X → Type 0) (n : ℕ) (s : List X) → All P s �
 all-take P zero s h = tt
 all-take P (suc n) [] h = tt
 all-take P (suc n) (a ∷ s) h = (h .0, all-take P n s (h .1))
-
-all-drop : {X : Type 0} (P : X → Type 0) (n : ℕ) (s : List X) → All P s → All P (drop n s)
-all-drop P zero s h = h
-all-drop P (suc n) [] h = tt
-all-drop P (suc n) (a ∷ s) h = all-drop P n s (h .1)
 
 -- a path is bytes as the sequences are
 pub path-bytes : (sequences : List ℕ) (k : ℕ) → All (λ b. b < 256) sequences → All (λ b. b < 256) (pathIn sequences k)
@@ -88,20 +84,21 @@ sizes-fit book h = open-sizes 0 (length book) 0 (rw (sym (book-fits book) ∙ h)
 module _ (sequences : List ℕ) (first i : ℕ) (few : i ≤ maxPaths) (book : List ℕ) (used : ℕ) (h : Holds sequences first i book used) where
   pub kept : Kept (recountOf sequences first i (length book))
   kept =
-      let used-is : used ≡ length (listing (pathsOf sequences first i)) = sym (length-rows book used) ∙ ap length (h .rows-are) ∙ length-image 0 (pathsOf sequences first i) in
+      let used-is : used ≡ length (listing (pathsOf sequences first i)) = sym (length-rows book used) ∙ ap length (h .rows-are) ∙ length-image 0 (pathsOf sequences first i) (pathsOf sequences first i) in
       record {
         sizes = sizes-fit book (h .book-fits);
         listed-le = omega (arith, h .used-fit);
+        early = zero-le;
         paths-le = omega (arith, length-paths sequences first i);
         whole = h .whole;
         ranks = h .ranks;
       }
 
   pub held-ascends : Ascends 0 (keys (rows book used))
-  held-ascends = rw (h .rows-are) (ascends-rows 0 (pathsOf sequences first i))
+  held-ascends = rw (h .rows-are) (ascends-rows 0 (pathsOf sequences first i) (pathsOf sequences first i))
 
   pub held-formed : formed (rows book used) ≡ true
-  held-formed = rw (h .rows-are) (formed-image 0 (pathsOf sequences first i) (h .whole) (h .ranks) (omega (arith, length-paths sequences first i)))
+  held-formed = rw (h .rows-are) (formed-image 0 (pathsOf sequences first i) (pathsOf sequences first i) (h .whole) (omega (arith, length-paths sequences first i)) (h .ranks))
 
   pub held-endings : EndingsListed (rows book used)
   held-endings = formed-endings (rows book used) held-formed
@@ -112,7 +109,7 @@ module _ (sequences : List ℕ) (first i : ℕ) (few : i ≤ maxPaths) (book : L
   -- ---- the next path
 
   pub listed-is : length (touchAll (listedKeys (pathOf (pathIn sequences (first + i)))) (rows book used)) ≡ length (listing (pathsOf sequences first i ++ pathOf (pathIn sequences (first + i)) ∷ []))
-  listed-is = rw (h .rows-are) (length-listing 0 (pathsOf sequences first i) (pathOf (pathIn sequences (first + i))))
+  listed-is = rw (h .rows-are) (length-listing 0 (pathsOf sequences first i) (pathsOf sequences first i) (pathOf (pathIn sequences (first + i))))
 
   pub not-whole : wholePath (pathIn sequences (first + i)) ≡ false → pathNumber sequences first i (length book) ≡ 10
   unfolding addRefusal
@@ -144,12 +141,13 @@ module _ (sequences : List ℕ) (first i : ℕ) (few : i ≤ maxPaths) (book : L
       unfolding pathsOf addRows leavingPath changeAll
       held-next bytes after n same w =
           let p : Steps = pathOf (pathIn sequences (first + i)) in
-          let rows-next : bumpAll (countedKeys p) (touchAll (listedKeys p) (rows book used)) ≡ rowsOf 0 (pathsOf sequences first i ++ p ∷ []) =
-          ap (λ (rs : List Row). bumpAll (countedKeys p) (touchAll (listedKeys p) rs)) (h .rows-are) ∙ sym (rows-step 0 (pathsOf sequences first i) p) in
+          let paths : List Steps = pathsOf sequences first i in
+          let rows-next : bumpAll (countedKeys p) (touchAll (listedKeys p) (rows book used)) ≡ rowsOf 0 (paths ++ p ∷ []) (paths ++ p ∷ []) =
+          ap (λ (rs : List Row). bumpAll (countedKeys p) (touchAll (listedKeys p) rs)) (h .rows-are) ∙ sym (rows-step 0 paths paths (window-drop 0 paths) p) in
           let k : Kept (joined (recountOf sequences first i (length book)) p) =
           kept-joined (recountOf sequences first i (length book)) (pathIn sequences (first + i)) kept (path-bytes sequences (first + i) (bytes-all sequences bytes))
           (add-taken (recountOf sequences first i (length book)) (pathIn sequences (first + i)) taken) in
-          let n-is : n ≡ length (listing (pathsOf sequences first i ++ p ∷ [])) = w .number-is ∙ ap length rows-next ∙ length-image 0 (pathsOf sequences first i ++ p ∷ []) in
+          let n-is : n ≡ length (listing (paths ++ p ∷ [])) = w .number-is ∙ ap length rows-next ∙ length-image 0 (paths ++ p ∷ []) (paths ++ p ∷ []) in
           record {
             book-fits = fits-same book after same (h .book-fits);
             used-fit = omega (arith, k .listed-le);
@@ -174,7 +172,7 @@ module _ (x : Lent) (accepted : Accepted x) (first i : ℕ) (few : i ≤ maxPath
   unfolding recountStats bookStats statsReading sequenceLength windowPart
   stats-are =
       let H : List Steps = pathsOf (x .sequences) first i in
-      let nodes-are : recountNodes 0 H ≡ listedNodes (rows book used) = sym (ap listedNodes (h .rows-are) ∙ listed-nodes 0 H (h .ranks)) in
+      let nodes-are : recountNodes 0 H H ≡ listedNodes (rows book used) = sym (ap listedNodes (h .rows-are) ∙ listed-nodes 0 H H (window-drop 0 H) (h .ranks)) in
       rw (accepted .tables-fit, accepted .priors-fit)
       (ap₂ (λ (n : ℕ) (ns : List Node). recorded (statsReadingOf n (walk (x .G) (x .D) (x .nodes) (x .children) (layerOf (x .floor)) ns))) (length-paths (x .sequences) first i) nodes-are)
 

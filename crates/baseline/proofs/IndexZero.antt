@@ -10,7 +10,7 @@ use lib.Ieee.{Float}
 use lib.IntN.{ℤ}
 use Rattle.priors.specs.Priors.{lentPriors, layerOf, priorsRefusal}
 use Rattle.book.specs.Path.{pathOf}
-use Rattle.book.specs.Claims.{Recount, restarted, joined, addRefusal}
+use Rattle.book.specs.Claims.{Recount, since, restarted, joined, addRefusal}
 use Rattle.divergence.specs.declared.statistics.KLDivergenceStats.{KLDivergenceStats}
 use Rattle.divergence.specs.Checks.{orElse}
 use Rattle.divergence.specs.Asked.{lentOutput}
@@ -28,7 +28,7 @@ module _ (g g′ d d′ : Float) (G D : List Float) (nodes children : List ℕ) 
 
   same-stats : (r : Recount) → recountStats one r ≡ recountStats other r
   unfolding recountStats
-  same-stats r = ap recorded (index-zero-unread (recountSeen (r .window) (r .paths)) (lentPriors nodes children floor) 0 (lentOutput [] []) .2 g g′ d d′ G D)
+  same-stats r = ap recorded (index-zero-unread (recountSeen (r .window) (r .paths) (since r)) (lentPriors nodes children floor) 0 (lentOutput [] []) .2 g g′ d d′ G D)
 
   same-records : (first : ℕ) (r : Recount) (i m : ℕ) → recordsFrom one first r i m ≡ recordsFrom other first r i m
   unfolding recordsFrom

@@ -14,7 +14,7 @@ use Rattle.priors.specs.Tables.{tablesRefusal}
 use Rattle.priors.specs.Priors.{layerOf, priorsRefusal}
 use Rattle.book.specs.Path.{Steps, pathOf}
 use Rattle.book.specs.Recount.{windowPart, sequenceLength}
-use Rattle.book.specs.Claims.{Recount, addRefusal, restarted, joined}
+use Rattle.book.specs.Claims.{Recount, since, addRefusal, restarted, joined}
 use Rattle.divergence.specs.declared.statistics.KLDivergenceStats.{KLDivergenceStats}
 use Rattle.divergence.specs.Numbers.{tiny64}
 use Rattle.divergence.specs.Statistics.{Place, Walk, stopped as ended, walked, walk, noStats, counted, noted, statsOver}
@@ -65,7 +65,7 @@ read-length L zero zero (walked ps k) a h = sym (ap heldLength h) ∙ over-lengt
 stats-length : (x : Lent) (r : Recount) (a : KLDivergenceStats) → recountStats x r ≡ reached a → lengthOf a ≡ sequenceLength (r .window) (r .paths)
 unfolding recountStats statsReading
 stats-length x r a h =
-    read-length (sequenceLength (r .window) (r .paths)) (tablesRefusal (x .G) (x .D)) (priorsRefusal (x .nodes) (x .children) (layerOf (x .floor))) (walk (x .G) (x .D) (x .nodes) (x .children) (layerOf (x .floor)) (recountNodes (r .window) (r .paths))) a h
+    read-length (sequenceLength (r .window) (r .paths)) (tablesRefusal (x .G) (x .D)) (priorsRefusal (x .nodes) (x .children) (layerOf (x .floor))) (walk (x .G) (x .D) (x .nodes) (x .children) (layerOf (x .floor)) (recountNodes (r .window) (r .paths) (since r))) a h
 
 -- with window 0 that is the number of paths
 all-paths : (r : Recount) (p : Steps) (i : ℕ) → r .window ≡ 0 → length (r .paths) ≡ i → sequenceLength (r .window) (r .paths ++ p ∷ []) ≡ suc i

@@ -52,13 +52,13 @@ pathsOf sequences first (suc i) = pathsOf sequences first i ++ pathOf (pathIn se
 
 -- their recount, with a book of this size
 abbrev pub recountOf : List ℕ → ℕ → ℕ → ℕ → Recount
-recountOf sequences first i bookSize = record { window = 0; paths = pathsOf sequences first i; bookSize = bookSize; queueSize = 0 }
+recountOf sequences first i bookSize = record { window = 0; paths = pathsOf sequences first i; base = 0; bookSize = bookSize; queueSize = 0 }
 
 -- the book holds them in its first entries
 pub record Holds (sequences : List ℕ) (first i : ℕ) (book : List ℕ) (used : ℕ) : Type 0 where
   pub book-fits : bookFits book ≡ true
   pub used-fit : entrySize * used ≤ length book
-  pub rows-are : rows book used ≡ rowsOf 0 (pathsOf sequences first i)
+  pub rows-are : rows book used ≡ rowsOf 0 (pathsOf sequences first i) (pathsOf sequences first i)
   pub whole : AllWhole (pathsOf sequences first i)
   pub ranks : AllRanks (pathsOf sequences first i)
 

@@ -19,7 +19,7 @@ use Rattle.book.specs.Limits.{maxSteps, stepSize, placeSize}
 use Rattle.book.specs.Path.{pathOf}
 use Rattle.book.specs.Form.{bookFits}
 use Rattle.book.specs.Calls.{zeros}
-use Rattle.book.specs.Claims.{Recount, restarted, joined, addRefusal}
+use Rattle.book.specs.Claims.{Recount, since, restarted, joined, addRefusal}
 use Rattle.divergence.specs.declared.statistics.KLDivergenceStats.{KLDivergenceStats}
 use Rattle.divergence.specs.Numbers.{zero64}
 use Rattle.divergence.specs.Readings.{Reading, refused, nothing, answered, Statistics}
@@ -115,7 +115,7 @@ recorded (answered a) = reached (a .stats)
 -- `kl_div_stats` of the recount
 unfoldable pub recountStats : Lent → Recount → Until KLDivergenceStats
 recountStats x r =
-    recorded (statsAsked (recountSeen (r .window) (r .paths)) (lentTables (x .G) (x .D)) (lentPriors (x .nodes) (x .children) (x .floor)))
+    recorded (statsAsked (recountSeen (r .window) (r .paths) (since r)) (lentTables (x .G) (x .D)) (lentPriors (x .nodes) (x .children) (x .floor)))
 
 -- a path that is refused stops the training
 abbrev pub unlessStopped : {X : Type 0} → ℕ → Until X → Until X

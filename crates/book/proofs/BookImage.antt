@@ -16,7 +16,7 @@ use Rattle.book.specs.Entries.{rows, bytesOf}
 use Rattle.book.specs.Path.{Steps, listedKeys}
 use Rattle.book.specs.Form.{plain, follows, formedAfter, formed}
 use Rattle.book.specs.Changes.{touchAll}
-use Rattle.book.specs.Calls.{zeros}
+use Rattle.book.specs.Calls.{zeros, bookOf}
 use Rattle.book.specs.Recount.{enterAll, listing, counted, rowsOf, bookImage}
 use Rattle.book.specs.Figures.{AllRanks, AllWhole}
 use Rattle.book.proofs.EntryLaws.{InRange, AllInRange, length-bytesOf, rows-bytesOf}
@@ -30,9 +30,9 @@ use Rattle.book.proofs.DryRun.{length-touched}
 
 -- ---- lengths
 
-pub length-image : (W : ℕ) (H : List Steps) → length (rowsOf W H) ≡ length (listing H)
+pub length-image : (W : ℕ) (H L : List Steps) → length (rowsOf W H L) ≡ length (listing L)
 unfolding rowsOf
-length-image W H = length-map (listing H) (λ k. row k (counted W H k))
+length-image W H L = length-map (listing L) (λ k. row k (counted W H k))
 
 flatMap-snoc : (f : Steps → List ℕ) (H : List Steps) (p : Steps) → flatMap f (H ++ p ∷ []) ≡ flatMap f H ++ f p
 unfolding flatMap
@@ -44,24 +44,25 @@ unfolding listing
 listing-step H p = rw (flatMap-snoc, enterAll-append)
 
 -- what 12 looks at
-pub length-listing : (W : ℕ) (H : List Steps) (p : Steps) → length (touchAll (listedKeys p) (rowsOf W H)) ≡ length (listing (H ++ p ∷ []))
-length-listing W H p =
-    sym (length-map (touchAll (listedKeys p) (rowsOf W H)) (λ (r : Row). r .key))
-    ∙ ap length (keys-touches (listedKeys p) (rowsOf W H) ∙ ap (enterAll (listedKeys p)) (keys-rows W H) ∙ sym (listing-step H p))
+pub length-listing : (W : ℕ) (H L : List Steps) (p : Steps) → length (touchAll (listedKeys p) (rowsOf W H L)) ≡ length (listing (L ++ p ∷ []))
+length-listing W H L p =
+    sym (length-map (touchAll (listedKeys p) (rowsOf W H L)) (λ (r : Row). r .key))
+    ∙ ap length (keys-touches (listedKeys p) (rowsOf W H L) ∙ ap (enterAll (listedKeys p)) (keys-rows W H L) ∙ sym (listing-step L p))
 
 -- no row goes away
-pub listing-grows : (W : ℕ) (H : List Steps) (p : Steps) → length (listing H) ≤ length (listing (H ++ p ∷ []))
-listing-grows W H p = omega (arith, length-image W H, length-listing W H p, length-touched (listedKeys p) (rowsOf W H))
+pub listing-grows : (L : List Steps) (p : Steps) → length (listing L) ≤ length (listing (L ++ p ∷ []))
+listing-grows L p = omega (arith, length-image 0 L L, length-listing 0 L L p, length-touched (listedKeys p) (rowsOf 0 L L))
 
 pub listings-grow : (G H : List Steps) → length (listing G) ≤ length (listing (G ++ H))
 listings-grow G [] = rw append-nil (omega arith)
-listings-grow G (p ∷ H) = rw (← append-assoc G (p ∷ []) H) (omega (arith, listing-grows 0 G p, listings-grow (G ++ p ∷ []) H))
+listings-grow G (p ∷ H) = rw (← append-assoc G (p ∷ []) H) (omega (arith, listing-grows G p, listings-grow (G ++ p ∷ []) H))
 
-pub length-book : (W : ℕ) (H : List Steps) (size : ℕ) → 24 * length (listing H) ≤ size → length (bookImage W H size) ≡ size
-unfolding bookImage
-length-book W H size h =
-    length-append (bytesOf (rowsOf W H)) (zeros (size - 24 * length (listing H)))
-    ∙ omega (arith, length-bytesOf (rowsOf W H), length-image W H, length-replicate {A = ℕ} (size - 24 * length (listing H)) 0)
+pub length-book : (W : ℕ) (H L : List Steps) (size : ℕ) → 24 * length (listing L) ≤ size → length (bookImage W H L size) ≡ size
+unfolding bookOf
+length-book W H L size h =
+    let front : List ℕ = bytesOf (rowsOf W H L) in
+    length-append front (zeros (size - length front))
+    ∙ omega (arith, length-bytesOf (rowsOf W H L), length-image W H L, length-replicate {A = ℕ} (size - length front) 0)
 
 -- ---- the rows that the bytes spell
 
@@ -74,19 +75,19 @@ in-range : (f : ℕ → ℕ) (ks : List ℕ) → ((k : ℕ) → In k ks → InRa
 in-range f [] h = tt
 in-range f (k ∷ ks) h = (h k (in-head k k ks refl), in-range f ks (λ j i. h j (in-tail j k ks i)))
 
-module _ (W : ℕ) (H : List Steps) (whole : AllWhole H) (ranks : AllRanks H) (few : length H ≤ 16777216) where
-  pub counts-le : (k : ℕ) → counted W H k ≤ 2 ^ 30
+module _ (W : ℕ) (H L : List Steps) (whole : AllWhole H) (few : length H ≤ 16777216) (ranks : AllRanks L) where
+  counts-le : (k : ℕ) → counted W H k ≤ 2 ^ 30
   counts-le k = omega (arith, counted-small W H k whole)
 
-  pub rows-in-range : AllInRange (rowsOf W H)
+  pub rows-in-range : AllInRange (rowsOf W H L)
   unfolding rowsOf
-  rows-in-range = in-range (counted W H) (listing H) (λ k i. record { key-fits = key-in-range k (node-ranked H ranks k i); count-fits = omega (arith, counts-le k) })
+  rows-in-range = in-range (counted W H) (listing L) (λ k i. record { key-fits = key-in-range k (node-ranked L ranks k i); count-fits = omega (arith, counts-le k) })
 
-  pub rows-image : (size : ℕ) → rows (bookImage W H size) (length (listing H)) ≡ rowsOf W H
-  unfolding bookImage
+  pub rows-image : (size : ℕ) → rows (bookImage W H L size) (length (listing L)) ≡ rowsOf W H L
+  unfolding bookOf
   rows-image size =
-      ap (rows (bookImage W H size)) (sym (length-image W H))
-      ∙ rows-bytesOf (rowsOf W H) (zeros (size - 24 * length (listing H))) rows-in-range
+      ap (rows (bookImage W H L size)) (sym (length-image W H L))
+      ∙ rows-bytesOf (rowsOf W H L) (zeros (size - length (bytesOf (rowsOf W H L)))) rows-in-range
 
 -- ---- the form
 
@@ -122,10 +123,10 @@ module _ (f : ℕ → ℕ) where
       let kind : kindOf k ≡ 0 = ap kindOf (h .0) ∙ kind-end (nodeOf k) in
       rw (p k (in-head k k ks refl), kind) (formed-after k ks (h .1) (λ j i. p j (in-tail j k ks i)))
 
-pub formed-image : (W : ℕ) (H : List Steps) → AllWhole H → AllRanks H → length H ≤ 16777216 → formed (rowsOf W H) ≡ true
+pub formed-image : (W : ℕ) (H L : List Steps) → AllWhole H → length H ≤ 16777216 → AllRanks L → formed (rowsOf W H L) ≡ true
 unfolding rowsOf
-formed-image W H whole ranks few =
-    formed-keys (counted W H) (listing H) (rw (← keys-rows W H) (formed-rows W H ranks)) (λ k i. plain-row k (counted W H k) (listed-sort H ranks k i) (counts-le W H whole ranks few k))
+formed-image W H L whole few ranks =
+    formed-keys (counted W H) (listing L) (rw (← keys-rows W H L) (formed-rows W H L ranks)) (λ k i. plain-row k (counted W H k) (listed-sort L ranks k i) (counts-le W H L whole few ranks k))
 
 -- ---- an add
 
@@ -134,20 +135,20 @@ drop-zeros zero n = let e : n ≡ n - 0 = omega arith in ap zeros e
 drop-zeros (suc k) zero = let e : 0 ≡ 0 - suc k = omega arith in ap zeros e
 drop-zeros (suc k) (suc n) = let e : n - k ≡ suc n - suc k = omega arith in drop-zeros k n ∙ ap zeros e
 
--- the entries of H with one more path, and the bytes behind them as they were
-pub book-step : (W : ℕ) (H : List Steps) (size : ℕ) (p : Steps)
-    → bytesOf (rowsOf W (H ++ p ∷ [])) ++ drop (length (bytesOf (rowsOf W (H ++ p ∷ [])))) (bookImage W H size) ≡ bookImage W (H ++ p ∷ []) size
-unfolding bookImage
-book-step W H size p =
-    let n : ℕ = length (listing H) in
-    let m : ℕ = length (listing (H ++ p ∷ [])) in
-    let front : List ℕ = bytesOf (rowsOf W H) in
-    let more : ℕ = 24 * m - 24 * n in
-    let at : length (bytesOf (rowsOf W (H ++ p ∷ []))) ≡ length front + more =
-    omega (arith, length-bytesOf (rowsOf W H), length-image W H, length-bytesOf (rowsOf W (H ++ p ∷ [])), length-image W (H ++ p ∷ []), listing-grows W H p) in
-    let left : size - 24 * n - more ≡ size - 24 * m = omega (arith, listing-grows W H p) in
-    ap (λ (l : List ℕ). bytesOf (rowsOf W (H ++ p ∷ [])) ++ l)
-    (ap (λ (k : ℕ). drop k (front ++ zeros (size - 24 * n))) at
-    ∙ drop-append-add front (zeros (size - 24 * n)) more
-    ∙ drop-zeros more (size - 24 * n)
+-- the entries with one more path, and the bytes behind them as they were
+pub book-step : (W : ℕ) (H L : List Steps) (size : ℕ) (p : Steps)
+    → let rs = rowsOf W (H ++ p ∷ []) (L ++ p ∷ []) in bytesOf rs ++ drop (length (bytesOf rs)) (bookImage W H L size) ≡ bookImage W (H ++ p ∷ []) (L ++ p ∷ []) size
+unfolding bookOf
+book-step W H L size p =
+    let rs : List Row = rowsOf W (H ++ p ∷ []) (L ++ p ∷ []) in
+    let front : List ℕ = bytesOf (rowsOf W H L) in
+    let n : ℕ = length front in
+    let more : ℕ = length (bytesOf rs) - n in
+    let at : length (bytesOf rs) ≡ n + more =
+    omega (arith, length-bytesOf (rowsOf W H L), length-image W H L, length-bytesOf rs, length-image W (H ++ p ∷ []) (L ++ p ∷ []), listing-grows L p) in
+    let left : size - n - more ≡ size - length (bytesOf rs) = omega arith in
+    ap (λ (l : List ℕ). bytesOf rs ++ l)
+    (ap (λ (k : ℕ). drop k (front ++ zeros (size - n))) at
+    ∙ drop-append-add front (zeros (size - n)) more
+    ∙ drop-zeros more (size - n)
     ∙ ap zeros left)

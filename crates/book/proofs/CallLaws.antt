@@ -1,4 +1,4 @@
--- The answers of an opening and of an add by their number: what a refused call leaves and what one that is taken does; and what the form hands to an add.
+-- The answers of an opening, of an add and of a tidy by their number: what a refused call leaves and what one that is taken does; and what the form hands to an add.
 -- Assumes nothing.
 use mathlib.Core.Path.{_≡_, refl, sym, ap, ap₂, _∙_}
 use mathlib.Core.Logic.{_⊎_, inl, inr}
@@ -16,13 +16,14 @@ use Rattle.priors.specs.Rows.{Row, keys, Ascends}
 use Rattle.priors.proofs.BelowLaws.{first-true, second-true}
 use Rattle.priors.proofs.Ranks.{Bytes}
 use Rattle.book.specs.declared.trackers.Tracker.{Tracker}
-use Rattle.book.specs.declared.trackers.Added.{Added}
+use Rattle.book.specs.declared.trackers.Changed.{Changed}
 use Rattle.book.specs.Limits.{maxWindow, maxAccepted}
 use Rattle.book.specs.Entries.{rows, bytesOf, Rewritten}
 use Rattle.book.specs.Path.{listedKeys, countedKeys, pathOf, wholePath}
 use Rattle.book.specs.Form.{capacity, bookFits, queueFits, stateFits, formed, lengthsFit, filled, inForm}
 use Rattle.book.specs.Changes.{changeAll, touchAll, bumpAll, fadeAll, leftKeys, addRows, EndingsListed}
-use Rattle.book.specs.Calls.{BookAnswer, addedNumber, addedState, addedAnswer, zeros, fresh, openNumber, openState, openBook, openQueue, openAnswer, addNumber, addState, addBook, addQueue, addAnswer, stateAfter, bookAfter, queueWith, listedRows, leaving, nextPlace, stepsAt, placeBytes, rowsAfter, Leaves, Ready}
+use Rattle.book.specs.Calls.{BookAnswer, changedNumber, changedState, changedAnswer, zeros, bookOf, fresh, openNumber, openState, openBook, openQueue, openAnswer, addNumber, addState, addBook, addQueue, addAnswer, stateAfter, bookAfter, queueWith, listedRows, leaving, nextPlace, stepsAt, placeBytes, rowsAfter, Leaves, Ready}
+use Rattle.book.specs.Tidy.{rowsTidied, stateTidied, tidyNumber, tidyState, tidyBook, tidyAnswer}
 use Rattle.book.proofs.EntryLaws.{length-rows, length-bytesOf, rows-forth}
 use Rattle.book.proofs.ManyRows.{ascends-all}
 use Rattle.book.proofs.Lengths.{length-half}
@@ -93,16 +94,28 @@ module _ (t : Tracker) (book queue path : List ℕ) where
         nothing-refused e = rw (formed, whole, lt-ltb (t .accepted) maxAccepted more, e)
 
   -- the parts of the answer
-  module _ (a : Added) (book′ queue′ : List ℕ) (e : addedAnswer a book′ queue′ ≡ addAnswer t book queue path) where
-    pub added-number : addedNumber a ≡ addNumber t book queue path
+  module _ (a : Changed) (book′ queue′ : List ℕ) (e : changedAnswer a book′ queue′ ≡ addAnswer t book queue path) where
+    pub added-number : changedNumber a ≡ addNumber t book queue path
     added-number = ap (λ (x : BookAnswer). x .number) e
 
-    pub added-state : addedState a ≡ addState t book queue path
+    pub added-state : changedState a ≡ addState t book queue path
     added-state = ap (λ (x : BookAnswer). state-or (x .state)) e
       where
         state-or : Option Tracker → Tracker
         state-or none = t
         state-or (some s) = s
+
+-- ---- a tidy
+
+module _ (t : Tracker) (book queue : List ℕ) where
+  pub tidy-refused : inForm t book queue ≡ false → _≡_ {A = BookAnswer} (record { number = 9; state = some t; book = book; queue = queue }) (tidyAnswer t book queue)
+  unfolding tidyNumber tidyState tidyBook
+  tidy-refused e = rw e
+
+  pub tidy-done : inForm t book queue ≡ true → (n : ℕ) → n ≡ length (rowsTidied t book) → (after : List ℕ) → after ≡ bookOf (rowsTidied t book) (length book)
+      → _≡_ {A = BookAnswer} (record { number = 0; state = some (record { window = t .window; used = n; accepted = t .accepted }); book = after; queue = queue }) (tidyAnswer t book queue)
+  unfolding tidyNumber tidyState stateTidied tidyBook
+  tidy-done e n is after leaves = rw (e, is, leaves)
 
 -- ---- what the form tells
 

@@ -1,6 +1,6 @@
--- Openings and adds go as the recount says: one call takes the image of a recount to the image of the next with the recount's own answer, since the image has the form,
--- its rows are the recount's, and the path about to leave is the oldest of the window part. An opening is answered so whatever was there before, and one that is
--- accepted leaves an image. Assumes nothing.
+-- Openings, adds and tidies go as the recount says: one call takes the image of a recount to the image of the next with the recount's own answer, since the image has
+-- the form, its rows are the recount's, the path about to leave is the oldest of the window part, and what a tidy keeps is what the window part lists. An opening is
+-- answered so whatever was there before, and one that is accepted leaves an image. Assumes nothing.
 use mathlib.Core.Path.{_≡_, refl, sym, ap, ap₂, _∙_}
 use Prim.Native.Nat.{ℕ, zero, suc, _+_, _-_, _*_, _≤_, _<_}
 use native.Mathlib.Omega.{arith}
@@ -9,21 +9,24 @@ use mathlib.Core.Option.{Option, none, some}
 use lib.ListN.{length, drop, length-append, replicate-append-replicate}
 use Rattle.priors.specs.Rows.{Row}
 use Rattle.book.specs.declared.trackers.Tracker.{Tracker}
-use Rattle.book.specs.Entries.{bytesOf}
+use Rattle.book.specs.Entries.{rows, bytesOf}
 use Rattle.book.specs.Path.{Steps, pathOf}
 use Rattle.book.specs.Changes.{addRows}
-use Rattle.book.specs.Calls.{stateAfter, bookAfter, zeros, unlessRefused, fresh, openNumber, openState, openBook, openQueue, rowsAfter, addState, addBook, addQueue}
-use Rattle.book.specs.Recount.{enterAll, listing, rowsOf, held, bookImage, placesImage, queueImage}
+use Rattle.book.specs.Calls.{stateAfter, bookAfter, zeros, bookOf, unlessRefused, fresh, openNumber, openState, openBook, openQueue, rowsAfter, addState, addBook, addQueue}
+use Rattle.book.specs.Tidy.{kept, stateTidied, tidyState, tidyBook}
+use Rattle.book.specs.Recount.{enterAll, listing, windowPart, rowsOf, held, bookImage, placesImage, queueImage}
 use Rattle.book.specs.Figures.{All}
-use Rattle.book.specs.Claims.{BookCall, opening, add, Machine, reopened, bookStep, Recount, openRefusal, addRefusal, restarted, joined, stateImage, recountStep, image, IsOpening, InBytes}
+use Rattle.book.specs.Claims.{BookCall, opening, add, tidy, Machine, reopened, bookStep, Recount, since, openRefusal, addRefusal, restarted, joined, tidied, stateImage, recountStep, image, IsOpening, InBytes}
 use Rattle.book.proofs.Step.{rows-step}
 use Rattle.book.proofs.PathLaws.{all-bytes}
 use Rattle.book.proofs.QueueImage.{leaving-image, queue-step}
 use Rattle.book.proofs.BookImage.{length-image, book-step}
-use Rattle.book.proofs.Kept.{Kept, open-sizes, add-taken, path-whole, kept-restarted, kept-step}
+use Rattle.book.proofs.BaseLaws.{drop-before}
+use Rattle.book.proofs.KeepLaws.{kept-window}
+use Rattle.book.proofs.Kept.{Kept, open-sizes, add-taken, path-whole, since-ends, since-ranks, since-joined, kept-restarted, kept-step}
 use Rattle.book.proofs.Simulation.{Alike}
 use Rattle.book.proofs.RefusalLaws.{open-number}
-use Rattle.book.proofs.FormImage.{rows-are, add-number}
+use Rattle.book.proofs.FormImage.{book-size, rows-are, add-number, tidy-number}
 
 -- ---- an opening
 
@@ -36,9 +39,9 @@ places-empty W (suc n) =
 
 -- zeros stand for no paths
 pub image-restarted : (w b q : ℕ) → 516 * w ≤ q → image (restarted w b q) ≡ record { state = fresh w; book = zeros b; queue = zeros q }
-unfolding image bookImage queueImage rowsOf listing enterAll flatMap bytesOf
+unfolding image bookOf queueImage rowsOf listing enterAll flatMap bytesOf
 image-restarted w b q h =
-    let book : b - 24 * 0 ≡ b = omega arith in
+    let book : b - 0 ≡ b = omega arith in
     let queue : 516 * w + (q - 516 * w) ≡ q = omega arith in
     let places : placesImage w [] w ++ zeros (q - 516 * w) ≡ zeros q =
     ap (λ (l : List ℕ). l ++ zeros (q - 516 * w)) (places-empty w w) ∙ replicate-append-replicate {A = ℕ} (516 * w) (q - 516 * w) 0 ∙ ap zeros queue in
@@ -114,18 +117,18 @@ module _ (r : Recount) (k : Kept r) (path : List ℕ) (bytes : All (λ b. b < 25
   abbrev p : Steps
   p = pathOf path
 
-  rows-after : rowsAfter (image r .state) (image r .book) (image r .queue) path ≡ rowsOf (r .window) (r .paths ++ p ∷ [])
+  rows-after : rowsAfter (image r .state) (image r .book) (image r .queue) path ≡ rowsOf (r .window) (r .paths ++ p ∷ []) (since r ++ p ∷ [])
   unfolding rowsAfter image
   rows-after =
-      ap₂ (λ (l : Option Steps) (rs : List Row). addRows p l rs) (leaving-image (r .window) (length (listing (r .paths))) (r .paths) (r .queueSize) (k .whole) (k .ranks)) (rows-are r k)
-      ∙ sym (rows-step (r .window) (r .paths) p)
+      ap₂ (λ (l : Option Steps) (rs : List Row). addRows p l rs) (leaving-image (r .window) (length (listing (since r))) (r .paths) (r .queueSize) (k .whole) (k .ranks)) (rows-are r k)
+      ∙ sym (rows-step (r .window) (r .paths) (since r) (since-ends r k) p)
 
   add-state : addState (image r .state) (image r .book) (image r .queue) path ≡ stateImage (recountStep r (add path) .1)
   unfolding addState stateAfter recountStep image
   add-state = unless-image stateImage _ (addRefusal r path) _ (stateImage r) (joined r p) r (add-number r k path) (λ e. taken) refl
     where
-      used : length (rowsAfter (image r .state) (image r .book) (image r .queue) path) ≡ length (listing (r .paths ++ p ∷ []))
-      used = ap length rows-after ∙ length-image (r .window) (r .paths ++ p ∷ [])
+      used : length (rowsAfter (image r .state) (image r .book) (image r .queue) path) ≡ length (listing (since (joined r p)))
+      used = ap length rows-after ∙ length-image (r .window) (r .paths ++ p ∷ []) (since r ++ p ∷ []) ∙ ap (λ (L : List Steps). length (listing L)) (sym (since-joined r (k .early) p))
 
       accepted : length (r .paths) + 1 ≡ length (r .paths ++ p ∷ [])
       accepted = omega (arith, length-append (r .paths) (p ∷ []))
@@ -136,8 +139,10 @@ module _ (r : Recount) (k : Kept r) (path : List ℕ) (bytes : All (λ b. b < 25
   add-book : addBook (image r .state) (image r .book) (image r .queue) path ≡ image (recountStep r (add path) .1) .book
   unfolding addBook bookAfter recountStep image
   add-book =
-      unless-image (λ (s : Recount). bookImage (s .window) (s .paths) (s .bookSize)) _ (addRefusal r path) _ _ (joined r p) r (add-number r k path)
-      (λ e. ap (λ (rs : List Row). bytesOf rs ++ drop (length (bytesOf rs)) (bookImage (r .window) (r .paths) (r .bookSize))) rows-after ∙ book-step (r .window) (r .paths) (r .bookSize) p)
+      unless-image (λ (s : Recount). bookImage (s .window) (s .paths) (since s) (s .bookSize)) _ (addRefusal r path) _ _ (joined r p) r (add-number r k path)
+      (λ e. ap (λ (rs : List Row). bytesOf rs ++ drop (length (bytesOf rs)) (bookImage (r .window) (r .paths) (since r) (r .bookSize))) rows-after
+      ∙ book-step (r .window) (r .paths) (since r) (r .bookSize) p
+      ∙ ap (λ (L : List Steps). bookImage (r .window) (r .paths ++ p ∷ []) L (r .bookSize)) (sym (since-joined r (k .early) p)))
       refl
 
   add-queue : addQueue (image r .state) (image r .book) (image r .queue) path ≡ image (recountStep r (add path) .1) .queue
@@ -145,7 +150,7 @@ module _ (r : Recount) (k : Kept r) (path : List ℕ) (bytes : All (λ b. b < 25
   add-queue =
       unless-image (λ (s : Recount). queueImage (s .window) (s .paths) (s .queueSize)) _ (addRefusal r path) _ _ (joined r p) r (add-number r k path)
       (λ e. let t = add-taken r path e in
-      queue-step (r .window) (length (listing (r .paths))) (r .paths) (r .queueSize) path (k .whole) (all-bytes path bytes) (t .steps-whole) (path-whole path (t .steps-some) (t .steps-le)))
+      queue-step (r .window) (length (listing (since r))) (r .paths) (r .queueSize) path (k .whole) (all-bytes path bytes) (t .steps-whole) (path-whole path (t .steps-some) (t .steps-le)))
       refl
 
   add-answer : bookStep (image r) (add path) .0 ≡ recountStep r (add path) .0
@@ -156,16 +161,51 @@ module _ (r : Recount) (k : Kept r) (path : List ℕ) (bytes : All (λ b. b < 25
   unfolding bookStep image
   add-leaves = λ i. record { state = add-state i; book = add-book i; queue = add-queue i }
 
+-- ---- a tidy
+
+module _ (r : Recount) (k : Kept r) where
+  -- the paths that list from then on
+  part : since (tidied r) ≡ windowPart (r .window) (r .paths)
+  part = drop-before (r .window) (r .paths)
+
+  rows-tidied : kept (rows (image r .book) (image r .state .used)) ≡ rowsOf (r .window) (r .paths) (since (tidied r))
+  unfolding image
+  rows-tidied =
+      ap kept (rows-are r k)
+      ∙ kept-window (r .window) (r .paths) (since r) (since-ends r k) (since-ranks r k)
+      ∙ ap (rowsOf (r .window) (r .paths)) (sym part)
+
+  tidy-state : tidyState (image r .state) (image r .book) (image r .queue) ≡ stateImage (tidied r)
+  unfolding tidyState stateTidied image
+  tidy-state =
+      let used : length (kept (rows (image r .book) (image r .state .used))) ≡ length (listing (since (tidied r))) =
+      ap length rows-tidied ∙ length-image (r .window) (r .paths) (since (tidied r)) in
+      rw (tidy-number r k) (λ i. record { window = r .window; used = used i; accepted = length (r .paths) })
+
+  tidy-book : tidyBook (image r .state) (image r .book) (image r .queue) ≡ image (tidied r) .book
+  unfolding tidyBook image
+  tidy-book = rw (tidy-number r k) (ap₂ bookOf rows-tidied (book-size r k))
+
+  tidy-answer : bookStep (image r) tidy .0 ≡ recountStep r tidy .0
+  unfolding bookStep recountStep image
+  tidy-answer = λ i. record { number = tidy-number r k i; state = some (tidy-state i); book = tidy-book i; queue = image r .queue }
+
+  pub tidy-leaves : bookStep (image r) tidy .1 ≡ image (recountStep r tidy .1)
+  unfolding bookStep recountStep image
+  tidy-leaves = λ i. record { state = tidy-state i; book = tidy-book i; queue = image r .queue }
+
 -- ---- one call
 
 pub step-image : (r : Recount) (c : BookCall) → Kept r → InBytes c → Alike bookStep recountStep image Kept InBytes (image r) r c
 step-image r (opening w book queue) k b = (open-answer (image r) r w book queue, open-leaves (image r) r w book queue refl, kept-step r (opening w book queue) k b)
 step-image r (add path) k b = (add-answer r k path b, add-leaves r k path b, kept-step r (add path) k b)
+step-image r tidy k b = (tidy-answer r k, tidy-leaves r k, kept-step r tidy k b)
 
 -- an opening is answered alike whatever there was
 pub opening-answer : (m : Machine) (r : Recount) (c : BookCall) → IsOpening c → bookStep m c .0 ≡ recountStep r c .0
 opening-answer m r (opening w book queue) is = open-answer m r w book queue
 opening-answer m r (add path) is = absurd is
+opening-answer m r tidy is = absurd is
 
 kept-first : (r : Recount) (w : ℕ) (book queue : List ℕ) → openRefusal w (length book) (length queue) ≡ 0 → Kept (recountStep r (opening w book queue) .1)
 unfolding recountStep

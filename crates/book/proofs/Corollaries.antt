@@ -1,71 +1,79 @@
--- H and W read off the answers are the recount's, and the rows of its image tell what its paths hold; and what single calls leave. Assumes nothing.
-use mathlib.Core.Path.{_≡_, refl, sym, ap, _∙_}
-use Prim.Native.Nat.{ℕ, zero, suc, _/_, _%_}
+-- W, H and L, read off the answers, are the recount's, and the rows of its image tell what its paths hold; and what single calls leave. Assumes nothing.
+use mathlib.Core.Path.{_≡_, refl, sym, ap, ap₂, _∙_}
+use Prim.Native.Nat.{ℕ, zero, suc, _+_, _*_, _/_, _%_, _≤_}
 use native.Mathlib.Omega.{arith}
 use mathlib.Core.List.{List, [], _∷_, _++_}
 use mathlib.Core.Option.{some}
 use mathlib.Core.Bool.{Bool, true, false, cond, _&&_}
 use lib.Dec.{leb, ltb, eqb}
-use lib.ListN.{length}
+use lib.ListN.{length, drop}
 use mathlib.Core.Logic.{_↔_}
 use Rattle.priors.specs.Rows.{look, countOf}
 use Rattle.priors.proofs.Exactly.{look-exact}
 use Rattle.book.specs.Keys.{endKey, childKey}
-use Rattle.book.specs.Path.{Steps, pathOf}
+use Rattle.book.specs.Path.{Steps, pathOf, stepBytes}
 use Rattle.book.specs.Calls.{unlessRefused, openBook, openQueue, addState, addBook, addQueue}
-use Rattle.book.specs.Recount.{occurrences, windowPart, listing, rowsOf}
-use Rattle.book.specs.Figures.{total, transitions, endings, Listed}
-use Rattle.book.specs.Claims.{BookCall, opening, add, runs, bookStep, Recount, openRefusal, addRefusal, restarted, joined, recountStep, image}
-use Rattle.book.specs.Corollaries.{acceptedSince, windowSince, HasRow, Told, OpeningStartsAfresh, RefusedOpeningLeavesAll, RefusedAddLeavesAll, FormReadsNoOther}
+use Rattle.book.specs.Tidy.{tidyState, tidyBook}
+use Rattle.book.specs.Recount.{occurrences, windowPart, beforeWindow, listing, rowsOf}
+use Rattle.book.specs.Figures.{AllWhole, Ranks, AllRanks, total, transitions, endings, Listed}
+use Rattle.book.specs.Claims.{BookCall, opening, add, tidy, runs, Machine, bookStep, Recount, since, openRefusal, addRefusal, restarted, joined, tidied, recountStep, image}
+use Rattle.book.specs.Corollaries.{Heard, heardWith, heardOf, NoTidy, AllListWithoutTidies, HasRow, Told, OpeningStartsAfresh, RefusedOpeningLeavesAll, RefusedAddLeavesAll, RefusedTidyLeavesAll, FormReadsNoOther}
 use Rattle.book.proofs.Passes.{found}
 use Rattle.book.proofs.Meaning.{look-ending, look-child, node-listed, child-listed-iff}
 use Rattle.book.proofs.VisitLaws.{all-counts, total-visits, total-none, never-visited}
 use Rattle.book.proofs.Image.{ascends-rows}
 use Rattle.book.proofs.LeastLaws.{listing-least, least-le}
-use Rattle.book.proofs.Kept.{Kept}
+use Rattle.book.proofs.Window.{EndsWith}
+use Rattle.book.proofs.BaseLaws.{drop-before, before-all}
+use Rattle.book.proofs.Kept.{Early, Kept, since-ends, since-whole, since-ranks, since-joined, early-step, all-snoc, kept-tidied}
 use Rattle.book.proofs.FormLaws.{form-reads}
-use Rattle.book.proofs.FormImage.{rows-are}
-use Rattle.book.proofs.Claimed.{opened}
+use Rattle.book.proofs.FormImage.{book-size, rows-are, add-number}
+use Rattle.book.proofs.Claimed.{opened, tidy-leaves}
+use Rattle.book.proofs.RefusalLaws.{add-fits}
 
--- ---- H and W
+-- ---- W, H and L
+
+abbrev pub heardIn : Recount → Heard
+heardIn r = record { window = r .window; paths = r .paths; lists = since r }
 
 unless-field : {X Y : Type 0} (f : X → Y) (n : ℕ) (a b : X) → f (unlessRefused n a b) ≡ unlessRefused n (f a) (f b)
 unless-field f zero a b = refl
 unless-field f (suc n) a b = refl
 
-pub since-paths : (r : Recount) (cs : List BookCall) → runs recountStep r cs .1 .paths ≡ acceptedSince (r .paths) cs (runs recountStep r cs .0)
-unfolding runs recountStep acceptedSince
-since-paths r [] = refl
-since-paths r (opening w book queue ∷ cs) =
-    let after = recountStep r (opening w book queue) .1 in
-    since-paths after cs
-    ∙ ap (λ (H : List Steps). acceptedSince H cs (runs recountStep after cs .0)) (unless-field (λ (s : Recount). s .paths) (openRefusal w (length book) (length queue)) (restarted w (length book) (length queue)) r)
-since-paths r (add path ∷ cs) =
-    let after = recountStep r (add path) .1 in
-    since-paths after cs
-    ∙ ap (λ (H : List Steps). acceptedSince H cs (runs recountStep after cs .0)) (unless-field (λ (s : Recount). s .paths) (addRefusal r path) (joined r (pathOf path)) r)
+-- what one call makes of them is what it makes of the recount's
+heard-step : (r : Recount) → Early r → (c : BookCall) → heardWith (heardIn r) c (recountStep r c .0 .number) ≡ heardIn (recountStep r c .1)
+unfolding recountStep
+heard-step r e (opening w book queue) = sym (unless-field heardIn (openRefusal w (length book) (length queue)) (restarted w (length book) (length queue)) r)
+heard-step r e (add path) =
+    (λ i. unlessRefused (addRefusal r path) (record { window = r .window; paths = r .paths ++ pathOf path ∷ []; lists = sym (since-joined r e (pathOf path)) i }) (heardIn r))
+    ∙ sym (unless-field heardIn (addRefusal r path) (joined r (pathOf path)) r)
+heard-step r e tidy = λ i. record { window = r .window; paths = r .paths; lists = sym (drop-before (r .window) (r .paths)) i }
 
-pub since-window : (r : Recount) (cs : List BookCall) → runs recountStep r cs .1 .window ≡ windowSince (r .window) cs (runs recountStep r cs .0)
-unfolding runs recountStep windowSince
-since-window r [] = refl
-since-window r (opening w book queue ∷ cs) =
-    let after = recountStep r (opening w book queue) .1 in
-    since-window after cs
-    ∙ ap (λ (W : ℕ). windowSince W cs (runs recountStep after cs .0)) (unless-field (λ (s : Recount). s .window) (openRefusal w (length book) (length queue)) (restarted w (length book) (length queue)) r)
-since-window r (add path ∷ cs) =
-    let after = recountStep r (add path) .1 in
-    since-window after cs
-    ∙ ap (λ (W : ℕ). windowSince W cs (runs recountStep after cs .0)) (go (addRefusal r path))
+pub heard-runs : (r : Recount) → Early r → (cs : List BookCall) → heardOf (heardIn r) cs (runs recountStep r cs .0) ≡ heardIn (runs recountStep r cs .1)
+unfolding runs heardOf
+heard-runs r e [] = refl
+heard-runs r e (c ∷ cs) =
+    let after = recountStep r c .1 in
+    ap (λ (h : Heard). heardOf h cs (runs recountStep after cs .0)) (heard-step r e c) ∙ heard-runs after (early-step r c e) cs
+
+pub all-list-without-tidies : AllListWithoutTidies
+unfolding heardOf
+all-list-without-tidies h e [] n answers = e
+all-list-without-tidies h e (c ∷ cs) n [] = e
+all-list-without-tidies h e (c ∷ cs) n (a ∷ answers) = all-list-without-tidies (heardWith h c (a .number)) (one c (a .number) (n .0)) cs (n .1) answers
   where
-    go : (n : ℕ) → unlessRefused n (joined r (pathOf path)) r .window ≡ r .window
-    go zero = refl
-    go (suc n) = refl
+    one : (c : BookCall) (k : ℕ) → NoTidy c → heardWith h c k .lists ≡ heardWith h c k .paths
+    one (opening w book queue) zero t = refl
+    one (opening w book queue) (suc k) t = e
+    one (add path) zero t = ap (λ (P : List Steps). P ++ pathOf path ∷ []) e
+    one (add path) (suc k) t = e
+    one tidy k t = absurd t
 
 -- ---- 9
 
 pub add-not-nine : (r : Recount) (path : List ℕ) → addRefusal r path ≡ 9 → ⊥
 unfolding addRefusal
-add-not-nine r path = go (leb 8 (length path) && (leb (length path) 512 && eqb (length path % 8) 0)) (ltb (length (r .paths)) 16777216) (leb (length (listing (r .paths ++ pathOf path ∷ []))) (r .bookSize / 24))
+add-not-nine r path = go (leb 8 (length path) && (leb (length path) 512 && eqb (length path % 8) 0)) (ltb (length (r .paths)) 16777216) (leb (length (listing (since r ++ pathOf path ∷ []))) (r .bookSize / 24))
   where
     go : (a b c : Bool) → _≡_ {A = ℕ} (cond a (cond b (cond c 0 12) 11) 10) 9 → ⊥
     go true true true h = omega arith
@@ -75,30 +83,46 @@ add-not-nine r path = go (leb 8 (length path) && (leb (length path) 512 && eqb (
 
 -- ---- what the book tells
 
+-- paths left out have at least as many steps as they are
+fewer-steps : (n : ℕ) (H : List Steps) → AllWhole H → length H + 2 * total length (drop n H) ≤ 2 * total length H + length (drop n H)
+unfolding total
+fewer-steps zero H w = omega arith
+fewer-steps (suc n) [] w = omega arith
+fewer-steps (suc n) (p ∷ H) w = omega (arith, w .0 .0, fewer-steps n H (w .1))
+
+-- with a window of 0 no path lies before the window part
+none-before : (r : Recount) → Early r → r .window ≡ 0 → tidied r ≡ r
+none-before r e z =
+    let same : beforeWindow (r .window) (r .paths) ≡ r .base = omega (arith, e, ap (λ (W : ℕ). beforeWindow W (r .paths)) z, before-all (r .paths)) in
+    λ i. record { window = r .window; paths = r .paths; base = same i; bookSize = r .bookSize; queueSize = r .queueSize }
+
 found-is : (n c d : ℕ) → found n c ≡ some d → d ≡ c
 found-is zero c d h = let z : _≡_ {A = ℕ} 0 1 = cc in absurd (omega arith)
 found-is (suc n) c d h = cc
 
 -- a look-up by exact key finds what a search of the recount's rows does, since they ascend
-exact : (W : ℕ) (H : List Steps) (j : ℕ) → look j (rowsOf W H) ≡ countOf j (rowsOf W H)
-exact W H j = look-exact j 0 (rowsOf W H) (ascends-rows W H)
+exact : (W : ℕ) (H L : List Steps) (j : ℕ) → look j (rowsOf W H L) ≡ countOf j (rowsOf W H L)
+exact W H L j = look-exact j 0 (rowsOf W H L) (ascends-rows W H L)
 
-exactly : (W : ℕ) (H : List Steps) (j : ℕ) {X : Type 0} → Listed j (rowsOf W H) ↔ X → HasRow j (rowsOf W H) ↔ X
-exactly W H j e = (λ h. e .0 (h .0, exact W H j ∙ h .1), λ x. let l = e .1 x in (l .0, sym (exact W H j) ∙ l .1))
+exactly : (W : ℕ) (H L : List Steps) (j : ℕ) {X : Type 0} → Listed j (rowsOf W H L) ↔ X → HasRow j (rowsOf W H L) ↔ X
+exactly W H L j e = (λ h. e .0 (h .0, exact W H L j ∙ h .1), λ x. let l = e .1 x in (l .0, sym (exact W H L j) ∙ l .1))
 
-pub told : (r : Recount) → Kept r → Told (image r) (r .window) (r .paths)
-unfolding image
+pub told : (r : Recount) → Kept r → Told (image r) (r .window) (r .paths) (since r)
+unfolding image recountStep
 told r k = record {
-  transition-listed = λ a b h. rw (rows-are r k) (exactly W H (childKey a b) (child-listed-iff W H (k .ranks) a b h));
-  transition-count = λ a b h c e. found-is (total (transitions a b) H) (total (transitions a b) (windowPart W H)) c (sym (look-child W H (k .ranks) a b h) ∙ exact W H (childKey a b) ∙ (rw (rows-are r k) at e));
-  node-listed = λ a. rw (rows-are r k) (exactly W H (endKey a) (node-listed W H (k .ranks) a));
-  ending-count = λ a c e. found-is (total (occurrences a) H) (total (endings a) (windowPart W H)) c (sym (look-ending W H (k .ranks) a) ∙ exact W H (endKey a) ∙ (rw (rows-are r k) at e));
-  used-least = listing-least H (k .ranks);
-  used-le = omega (arith, listing-least H (k .ranks), least-le H (k .whole));
-  total-visits = λ a. rw (rows-are r k) (total-visits W H (k .ranks) a);
-  total-none = λ a. rw (rows-are r k) (total-none W H (k .ranks) a);
-  unlisted = λ a h. never-visited W H a (λ s. h (rw (rows-are r k) (exactly W H (endKey a) (node-listed W H (k .ranks) a) .1 s)));
-  all-counts = rw (rows-are r k) (all-counts W H);
+  transition-listed = λ a b h. rw (rows-are r k) (exactly W H L (childKey a b) (child-listed-iff W H L ends ranks a b h));
+  transition-count = λ a b h c e. found-is (total (transitions a b) L) (total (transitions a b) (windowPart W H)) c (sym (look-child W H L ends ranks a b h) ∙ exact W H L (childKey a b) ∙ (rw (rows-are r k) at e));
+  node-listed = λ a. rw (rows-are r k) (exactly W H L (endKey a) (node-listed W H L ends ranks a));
+  ending-count = λ a c e. found-is (total (occurrences a) L) (total (endings a) (windowPart W H)) c (sym (look-ending W H L ends ranks a) ∙ exact W H L (endKey a) ∙ (rw (rows-are r k) at e));
+  used-least = listing-least L ranks;
+  used-le = omega (arith, listing-least L ranks, least-le L (since-whole r k), fewer-steps (r .base) H (k .whole));
+  twelve = λ p w h l. add-number r k (stepBytes p) ∙ add-fits r p w h l ∙ ap₂ (λ (a b : ℕ). cond (leb a (b / 24)) 0 12) (listing-least (L ++ p ∷ []) (all-snoc Ranks L p ranks h)) (sym (book-size r k));
+  tidy-again = ap (λ (m : Machine). bookStep m tidy .1) (tidy-leaves r k) ∙ tidy-leaves (tidied r) (kept-tidied r k) ∙ sym (tidy-leaves r k);
+  tidy-of-all = λ z. tidy-leaves r k ∙ ap image (none-before r (k .early) z);
+  total-visits = λ a. rw (rows-are r k) (total-visits W H L ends ranks a);
+  total-none = λ a. rw (rows-are r k) (total-none W H L ends ranks a);
+  unlisted = λ a h. never-visited W H L ends a (λ s. h (rw (rows-are r k) (exactly W H L (endKey a) (node-listed W H L ends ranks a) .1 s)));
+  all-counts = rw (rows-are r k) (all-counts W H L ends);
 }
   where
     W : ℕ
@@ -106,6 +130,15 @@ told r k = record {
 
     H : List Steps
     H = r .paths
+
+    L : List Steps
+    L = since r
+
+    ends : EndsWith W H L
+    ends = since-ends r k
+
+    ranks : AllRanks L
+    ranks = since-ranks r k
 
 -- ---- single calls
 
@@ -119,6 +152,10 @@ refused-opening-leaves-all m w book queue n e = (opened m (restarted 0 0 0) w bo
 pub refused-add-leaves-all : RefusedAddLeavesAll
 unfolding bookStep addState addBook addQueue
 refused-add-leaves-all m path n e = rw e
+
+pub refused-tidy-leaves-all : RefusedTidyLeavesAll
+unfolding bookStep tidyState tidyBook
+refused-tidy-leaves-all m n e = rw e
 
 -- ---- the form
 

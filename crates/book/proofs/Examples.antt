@@ -11,13 +11,14 @@ use Rattle.book.specs.Entries.{keyAt, rowAt, rows, rowBytes, bytesOf}
 use Rattle.book.specs.Path.{Steps, stepsOf, wholePath, listedKeys, countedKeys}
 use Rattle.book.specs.Form.{bookFits, queueFits, plain, follows, formedAfter, formed, lengthsFit, stateFits, inForm}
 use Rattle.book.specs.Changes.{changeAll, addRows}
-use Rattle.book.specs.Calls.{fresh, openNumber, openState, openBook, openQueue, leaving, addNumber, rowsAfter, addState, stateAfter, addBook, bookAfter, placeBytes, queueWith, addQueue}
-use Rattle.book.specs.Recount.{windowPart, enter, enterAll, listing}
+use Rattle.book.specs.Calls.{bookOf, fresh, openNumber, openState, openBook, openQueue, leaving, addNumber, rowsAfter, addState, stateAfter, addBook, bookAfter, placeBytes, queueWith, addQueue}
+use Rattle.book.specs.Tidy.{keepWhere, stays, kept, tidyNumber, stateTidied, tidyState, tidyBook}
+use Rattle.book.specs.Recount.{windowPart, sequenceLength, beforeWindow, enter, enterAll, listing}
 use Rattle.book.specs.Figures.{total}
 use Rattle.book.specs.Visits.{arrivals, beginnings, visits, evidenceTotal}
 use Rattle.book.specs.Memory.{among, different, pairs, least, numbers}
-use Rattle.book.specs.Claims.{BookCall, opening, add, runs, Machine, bookStep, recountStep, openRefusal, addRefusal, restarted}
-use Rattle.book.specs.Corollaries.{acceptedSince, entriesOf}
+use Rattle.book.specs.Claims.{BookCall, opening, add, tidy, runs, Machine, bookStep, recountStep, openRefusal, addRefusal, restarted}
+use Rattle.book.specs.Corollaries.{nothingHeard, heardOf, entriesOf}
 
 abbrev high : List ℕ
 high = 1 ∷ 0 ∷ 0 ∷ 0 ∷ 7 ∷ 0 ∷ 0 ∷ 0 ∷ []
@@ -59,8 +60,8 @@ entries-left = refl
 abbrev taken : List Steps
 taken = (rank 1 7 ∷ rank 0 9 ∷ []) ∷ (rank 1 7 ∷ []) ∷ []
 
-taken-are : acceptedSince [] calls (runs recountStep (restarted 0 0 0) calls .0) ≡ taken
-unfolding acceptedSince runs recountStep openRefusal addRefusal listing enterAll enter flatMap listedKeys stepsOf word rank lift endKey childKey keyOf
+taken-are : heardOf nothingHeard calls (runs recountStep (restarted 0 0 0) calls .0) .paths ≡ taken
+unfolding heardOf runs recountStep openRefusal addRefusal listing enterAll enter flatMap listedKeys stepsOf word rank lift endKey childKey keyOf
 taken-are = refl
 
 visits-left : map (visits 1 taken) (rank 1 7 ∷ rank 0 9 ∷ []) ≡ 1 ∷ 0 ∷ []
@@ -92,3 +93,34 @@ least-back = refl
 least-itself : least ((1 ∷ 1 ∷ 1 ∷ []) ∷ (1 ∷ []) ∷ []) ≡ 2
 unfolding least different among pairs flatMap
 least-itself = refl
+
+-- ---- tidies
+
+-- the book is full of what has left the window: a path that brings one entry gets 12, is taken after a tidy, and alone is left after another
+abbrev other : List ℕ
+other = 5 ∷ 0 ∷ 0 ∷ 0 ∷ 5 ∷ 0 ∷ 0 ∷ 0 ∷ []
+
+abbrev more : List BookCall
+more = add other ∷ tidy ∷ add other ∷ tidy ∷ []
+
+tidied-numbers : numbers (runs recountStep (runs recountStep (restarted 0 0 0) calls .1) more .0) ≡ 12 ∷ 0 ∷ 0 ∷ 0 ∷ []
+unfolding runs recountStep openRefusal addRefusal beforeWindow sequenceLength windowPart listing enterAll enter flatMap listedKeys stepsOf word rank lift endKey childKey keyOf
+tidied-numbers = refl
+
+after : Machine
+unfolding before
+after = runs bookStep (runs bookStep before calls .1) more .1
+
+entries-tidied : entriesOf after ≡ row (endKey (rank 5 5)) 1 ∷ []
+unfolding after before runs bookStep openNumber openState openBook openQueue addNumber addState stateAfter addBook bookAfter addQueue rowsAfter leaving queueWith placeBytes tidyNumber tidyState stateTidied tidyBook bookOf kept keepWhere stays evidenceTotal inForm stateFits queueFits bookFits formed formedAfter follows plain lengthsFit rows rowAt keyAt bytesOf rowBytes nodeOf kindOf childOf store wholePath changeAll change addRows listedKeys countedKeys stepsOf word rank lift endKey childKey keyOf
+entries-tidied = refl
+
+-- then only the path of the window part lists
+lists-left : heardOf nothingHeard (calls ++ more) (runs recountStep (restarted 0 0 0) (calls ++ more) .0) .lists ≡ (rank 5 5 ∷ []) ∷ []
+unfolding heardOf runs recountStep openRefusal addRefusal beforeWindow sequenceLength windowPart listing enterAll enter flatMap listedKeys stepsOf word rank lift endKey childKey keyOf
+lists-left = refl
+
+-- an ending of 0 stays where a child of its node counts, though another's child names a node that goes
+tidied-rows : kept (row (endKey 1) 0 ∷ row (childKey 1 2) 1 ∷ row (childKey 1 3) 0 ∷ row (endKey 2) 0 ∷ []) ≡ row (endKey 1) 0 ∷ row (childKey 1 2) 1 ∷ []
+unfolding kept keepWhere stays evidenceTotal nodeOf kindOf endKey childKey keyOf rank lift
+tidied-rows = refl

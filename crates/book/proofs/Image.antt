@@ -1,5 +1,5 @@
--- The rows of H: what a look-up finds in them, and that their keys are the listing, ascending. A look-up finds a key just where H lists it, with its
--- count in the window part. The listing is what touching all listed keys leaves, so that the laws of changes do for it too. Assumes nothing.
+-- The recount's rows: what a look-up finds in them, and that their keys are the listing, ascending. A look-up finds a key just where L lists it, with its
+-- count in the window part of H. The listing is what touching all listed keys leaves, so that the laws of changes do for it too. Assumes nothing.
 use mathlib.Core.Path.{_≡_, refl, sym, ap, _∙_}
 use Prim.Native.Nat.{ℕ, zero, suc, _+_, _-_, _≤_, _<_}
 use native.Mathlib.Nat.{add-zero, sub-zero}
@@ -40,7 +40,7 @@ faded zero n c = ap (found n) (sym (sub-zero c))
 faded (suc d) zero c = faded d zero c
 faded (suc d) (suc n) c = faded d (suc n) (c - 1) ∙ ap some (omega arith)
 
--- ---- the rows of H
+-- ---- the rows of H and L
 
 -- rows with the same keys and other counts
 look-refill : (f : ℕ → ℕ) (j : ℕ) (rs : List Row) → look j (map (λ k. row k (f k)) (keys rs)) ≡ Option·map (λ c. f j) (look j rs)
@@ -58,25 +58,25 @@ refilled zero v = refl
 refilled (suc n) v = ap (Option·map (λ c. v)) (touch-some n 0)
 
 -- the listing is what touching the listed keys leaves
-listing-touched : (H : List Steps) → listing H ≡ keys (touchAll (flatMap listedKeys H) [])
+listing-touched : (L : List Steps) → listing L ≡ keys (touchAll (flatMap listedKeys L) [])
 unfolding listing
-listing-touched H = sym (keys-touches (flatMap listedKeys H) [])
+listing-touched L = sym (keys-touches (flatMap listedKeys L) [])
 
-pub look-rows : (W : ℕ) (H : List Steps) (j : ℕ) → look j (rowsOf W H) ≡ found (occurrences j (flatMap listedKeys H)) (counted W H j)
+pub look-rows : (W : ℕ) (H L : List Steps) (j : ℕ) → look j (rowsOf W H L) ≡ found (occurrences j (flatMap listedKeys L)) (counted W H j)
 unfolding rowsOf look
-look-rows W H j =
+look-rows W H L j =
     rw listing-touched
-    (look-refill (counted W H) j (touchAll (flatMap listedKeys H) [])
-    ∙ ap (Option·map (λ c. counted W H j)) (look-all (some 0) (λ c. c) j (flatMap listedKeys H) [])
-    ∙ refilled (occurrences j (flatMap listedKeys H)) (counted W H j))
+    (look-refill (counted W H) j (touchAll (flatMap listedKeys L) [])
+    ∙ ap (Option·map (λ c. counted W H j)) (look-all (some 0) (λ c. c) j (flatMap listedKeys L) [])
+    ∙ refilled (occurrences j (flatMap listedKeys L)) (counted W H j))
 
-pub keys-rows : (W : ℕ) (H : List Steps) → keys (rowsOf W H) ≡ listing H
+pub keys-rows : (W : ℕ) (H L : List Steps) → keys (rowsOf W H L) ≡ listing L
 unfolding rowsOf
-keys-rows W H = map-map _ _ (listing H) ∙ map-id (listing H)
+keys-rows W H L = map-map _ _ (listing L) ∙ map-id (listing L)
 
-pub ascends-listing : (H : List Steps) → Ascends 0 (listing H)
+pub ascends-listing : (L : List Steps) → Ascends 0 (listing L)
 unfolding listing
-ascends-listing H = ascends-entered (flatMap listedKeys H)
+ascends-listing L = ascends-entered (flatMap listedKeys L)
 
-pub ascends-rows : (W : ℕ) (H : List Steps) → Ascends 0 (keys (rowsOf W H))
-ascends-rows W H = rw keys-rows (ascends-listing H)
+pub ascends-rows : (W : ℕ) (H L : List Steps) → Ascends 0 (keys (rowsOf W H L))
+ascends-rows W H L = rw keys-rows (ascends-listing L)

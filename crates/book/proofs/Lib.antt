@@ -39,6 +39,11 @@ pub mod PassLaws
 pub mod PlaceLaws
 pub mod RoomLaws
 pub mod CallLaws
+-- what a tidy keeps:
+pub mod AheadLaws
+pub mod TidyLaws
+pub mod BaseLaws
+pub mod KeepLaws
 -- the claim over lists of calls:
 pub mod Kept
 pub mod RefusalLaws

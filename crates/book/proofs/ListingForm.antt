@@ -143,5 +143,5 @@ formed-keys : (ks : List ℕ) → Ascends 0 ks → Closed 0 ks → Formed ks
 formed-keys [] h c = tt
 formed-keys (x ∷ ks) h c = (first-is-end 0 x ks h c zero-le, formed-after x ks (h .1) (closed-rest 0 x ks h c))
 
-pub formed-rows : (W : ℕ) (H : List Steps) → AllRanks H → Formed (keys (rowsOf W H))
-formed-rows W H h = rw keys-rows (formed-keys (listing H) (ascends-listing H) (closed-listing H h))
+pub formed-rows : (W : ℕ) (H L : List Steps) → AllRanks L → Formed (keys (rowsOf W H L))
+formed-rows W H L h = rw keys-rows (formed-keys (listing L) (ascends-listing L) (closed-listing L h))

@@ -1,5 +1,5 @@
--- The rows in the paper's words, for paths whose steps are ranks: a child is listed under a node if the two are a transition somewhere in H, and its
--- count is how often they are one in the window part; a node is listed if some path of H holds it, and its ending's count is how many paths of the
+-- The rows in the paper's words, for paths whose steps are ranks: a child is listed under a node if the two are a transition somewhere in L, and its
+-- count is how often they are one in the window part of H; a node is listed if some path of L holds it, and its ending's count is how many paths of the
 -- window part end there. The keys of two nodes, of an ending and a child, and of two children of a node differ, and that is all that is used of them.
 -- Assumes nothing.
 use mathlib.Core.Path.{_≡_, refl, sym, ap, ap₂, _∙_}
@@ -10,7 +10,6 @@ use mathlib.Core.List.{List, [], _∷_, flatMap, List·Memᴰ, List·Memᴰ·hea
 use mathlib.Core.Option.{some}
 use mathlib.Core.Bool.{cond, _&&_}
 use lib.Dec.{eqb}
-use lib.ListN.{drop}
 use borrow.Author.Tests.{eq-eqb, ne-eqb}
 use Rattle.priors.specs.Rows.{Row, look}
 use Rattle.priors.specs.Address.{lift, rank}
@@ -21,7 +20,7 @@ use Rattle.book.specs.Figures.{total, transitions, endings, Ranks, AllRa
 use Rattle.priors.proofs.Orders.{Alike, alike, unlike, compared}
 use Rattle.book.proofs.Passes.{found}
 use Rattle.book.proofs.Occurrences.{hit, occ-nil, occ-cons, occ-append}
-use Rattle.book.proofs.Window.{window-drop}
+use Rattle.book.proofs.Window.{EndsWith, all-drop}
 use Rattle.book.proofs.Image.{look-rows}
 
 -- ---- keys that differ
@@ -96,32 +95,27 @@ unfolding flatMap total
 occ-total k f g e [] h = occ-nil k
 occ-total k f g e (p ∷ H) h = omega (arith, occ-append k (f p) (flatMap f H), e p (h .0), occ-total k f g e H (h .1))
 
-ranks-drop : (n : ℕ) (H : List Steps) → AllRanks H → AllRanks (drop n H)
-ranks-drop zero H h = h
-ranks-drop (suc n) [] h = h
-ranks-drop (suc n) (p ∷ H) h = ranks-drop n H (h .1)
-
-pub ranks-window : (W : ℕ) (H : List Steps) → AllRanks H → AllRanks (windowPart W H)
-ranks-window W H h = let d = window-drop W H in rw (d .1) (ranks-drop (d .0) H h)
+pub ranks-window : (W : ℕ) (H L : List Steps) → EndsWith W H L → AllRanks L → AllRanks (windowPart W H)
+ranks-window W H L d h = rw (d .1) (all-drop Ranks (d .0) L h)
 
 -- how often a node stands in the paths
 pub stands-total : (a : ℕ) (H : List Steps) → AllRanks H → occurrences a (flatMap (λ (p : Steps). p) H) ≡ total (occurrences a) H
 stands-total a = occ-total a (λ (p : Steps). p) (occurrences a) (λ p h. refl)
 
-module _ (W : ℕ) (H : List Steps) (ranks : AllRanks H) (a : ℕ) where
-  pub look-ending : look (endKey a) (rowsOf W H) ≡ found (total (occurrences a) H) (total (endings a) (windowPart W H))
+module _ (W : ℕ) (H L : List Steps) (ends : EndsWith W H L) (ranks : AllRanks L) (a : ℕ) where
+  pub look-ending : look (endKey a) (rowsOf W H L) ≡ found (total (occurrences a) L) (total (endings a) (windowPart W H))
   unfolding counted
   look-ending =
-      look-rows W H (endKey a)
-      ∙ ap₂ found (occ-total (endKey a) listedKeys (occurrences a) (ends-listed a) H ranks) (occ-total (endKey a) countedKeys (endings a) (ends-counted a) (windowPart W H) (ranks-window W H ranks))
+      look-rows W H L (endKey a)
+      ∙ ap₂ found (occ-total (endKey a) listedKeys (occurrences a) (ends-listed a) L ranks) (occ-total (endKey a) countedKeys (endings a) (ends-counted a) (windowPart W H) (ranks-window W H L ends ranks))
 
-  pub look-child : (b : ℕ) → b < 2 ^ 64 → look (childKey a b) (rowsOf W H) ≡ found (total (transitions a b) H) (total (transitions a b) (windowPart W H))
+  pub look-child : (b : ℕ) → b < 2 ^ 64 → look (childKey a b) (rowsOf W H L) ≡ found (total (transitions a b) L) (total (transitions a b) (windowPart W H))
   unfolding counted
   look-child b r =
-      look-rows W H (childKey a b)
-      ∙ ap₂ found (occ-total (childKey a b) listedKeys (transitions a b) (child-listed a b r) H ranks) (occ-total (childKey a b) countedKeys (transitions a b) (child-counted a b r) (windowPart W H) (ranks-window W H ranks))
+      look-rows W H L (childKey a b)
+      ∙ ap₂ found (occ-total (childKey a b) listedKeys (transitions a b) (child-listed a b r) L ranks) (occ-total (childKey a b) countedKeys (transitions a b) (child-counted a b r) (windowPart W H) (ranks-window W H L ends ranks))
 
--- ---- listed if, and only if, some path of H has it
+-- ---- listed if, and only if, some path of L has it
 
 pub somewhere : (f : Steps → ℕ) (H : List Steps) → 0 < total f H → Somewhere f H
 unfolding total
@@ -160,11 +154,11 @@ listed-above k f H rs c e = (λ l. somewhere f H (there (total f H) (l .0) (sym 
     back zero h = absurd (omega arith)
     back (suc n) h = refl
 
-module _ (W : ℕ) (H : List Steps) (ranks : AllRanks H) (a : ℕ) where
-  -- a node has its ending if some path of H holds it
-  pub node-listed : Listed (endKey a) (rowsOf W H) ↔ Somewhere (occurrences a) H
-  node-listed = listed-above (endKey a) (occurrences a) H (rowsOf W H) _ (look-ending W H ranks a)
+module _ (W : ℕ) (H L : List Steps) (ends : EndsWith W H L) (ranks : AllRanks L) (a : ℕ) where
+  -- a node has its ending if some path of L holds it
+  pub node-listed : Listed (endKey a) (rowsOf W H L) ↔ Somewhere (occurrences a) L
+  node-listed = listed-above (endKey a) (occurrences a) L (rowsOf W H L) _ (look-ending W H L ends ranks a)
 
-  -- a child under a node is listed if the two are a transition somewhere in H
-  pub child-listed-iff : (b : ℕ) → b < 2 ^ 64 → Listed (childKey a b) (rowsOf W H) ↔ Somewhere (transitions a b) H
-  child-listed-iff b r = listed-above (childKey a b) (transitions a b) H (rowsOf W H) _ (look-child W H ranks a b r)
+  -- a child under a node is listed if the two are a transition somewhere in L
+  pub child-listed-iff : (b : ℕ) → b < 2 ^ 64 → Listed (childKey a b) (rowsOf W H L) ↔ Somewhere (transitions a b) L
+  child-listed-iff b r = listed-above (childKey a b) (transitions a b) L (rowsOf W H L) _ (look-child W H L ends ranks a b r)

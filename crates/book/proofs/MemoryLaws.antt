@@ -7,29 +7,26 @@ use native.Mathlib.Omega.{arith}
 use mathlib.Core.List.{List, [], _∷_, _++_, append-nil, append-assoc}
 use mathlib.Core.Bool.{Bool, true, false, cond}
 use lib.Dec.{leb, eqb}
-use lib.ListN.{length, length-append}
-use borrow.Author.Tests.{le-leb, lt-ltb, eq-eqb}
+use lib.ListN.{length, drop, length-append}
+use borrow.Author.Tests.{le-leb, eq-eqb}
 use Rattle.book.specs.Path.{Steps, stepBytes}
 use Rattle.book.specs.Calls.{unlessRefused}
 use Rattle.book.specs.Recount.{listing}
 use Rattle.book.specs.Figures.{All, Whole, AllWhole, Ranks, AllRanks}
-use Rattle.book.specs.Claims.{opening, add, runs, Machine, bookStep, Recount, openRefusal, addRefusal, restarted, joined, image, recountStep, InBytes}
+use Rattle.book.specs.Claims.{opening, add, runs, Machine, bookStep, Recount, since, openRefusal, addRefusal, restarted, joined, image, recountStep, InBytes}
 use Rattle.book.specs.Memory.{among, least, adds, numbers, AllTaken, SomeTwelve}
-use Rattle.book.proofs.PathLaws.{length-stepBytes, path-back, steps-in-bytes}
+use Rattle.book.proofs.PathLaws.{path-back, steps-in-bytes}
+use Rattle.book.proofs.RefusalLaws.{add-fits}
 use Rattle.book.proofs.BookImage.{listings-grow}
 use Rattle.book.proofs.Kept.{Kept, open-sizes, kept-restarted}
 use Rattle.book.proofs.Simulation.{Alike, AllAlike, runs-after, runs-image}
 use Rattle.book.proofs.Claimed.{step-image, accepted-opening}
 use Rattle.book.proofs.LeastLaws.{listing-least}
 
--- ---- one add
+-- ---- one add, where no tidy came
 
-add-fits : (r : Recount) (p : Steps) → Whole p → Ranks p → length (r .paths) < 16777216 → addRefusal r (stepBytes p) ≡ cond (leb (length (listing (r .paths ++ p ∷ []))) (r .bookSize / 24)) 0 12
-unfolding addRefusal
-add-fits r p w h l =
-    let n : ℕ = length (stepBytes p) in
-    let eight : n ≡ 8 * length p = length-stepBytes p in
-    rw (le-leb 8 n (omega (arith, w .0)), le-leb n 512 (omega (arith, w .1)), eq-eqb (n % 8) 0 (omega arith), lt-ltb (length (r .paths)) 16777216 l, path-back p h)
+add-first : (r : Recount) (p : Steps) → r .base ≡ 0 → Whole p → Ranks p → length (r .paths) < 16777216 → addRefusal r (stepBytes p) ≡ cond (leb (length (listing (r .paths ++ p ∷ []))) (r .bookSize / 24)) 0 12
+add-first r p z w h l = add-fits r p w h l ∙ ap (λ (b : ℕ). cond (leb (length (listing (drop b (r .paths) ++ p ∷ []))) (r .bookSize / 24)) 0 12) z
 
 -- ---- adds, one after another
 
@@ -40,24 +37,24 @@ adds-in-bytes (p ∷ L) = (steps-in-bytes p, adds-in-bytes L)
 abbrev answers : Recount → List Steps → List ℕ
 answers r L = numbers (runs recountStep r (adds L) .0)
 
-taken-all : (r : Recount) (L : List Steps) → AllWhole L → AllRanks L → length (r .paths) + length L ≤ 16777216 → length (listing (r .paths ++ L)) ≤ r .bookSize / 24 → AllTaken (answers r L)
+taken-all : (r : Recount) (L : List Steps) → r .base ≡ 0 → AllWhole L → AllRanks L → length (r .paths) + length L ≤ 16777216 → length (listing (r .paths ++ L)) ≤ r .bookSize / 24 → AllTaken (answers r L)
 unfolding runs recountStep
-taken-all r [] w h n l = tt
-taken-all r (p ∷ L) w h n l =
+taken-all r [] z w h n l = tt
+taken-all r (p ∷ L) z w h n l =
     let all : length (listing ((r .paths ++ p ∷ []) ++ L)) ≤ r .bookSize / 24 = rw (append-assoc (r .paths) (p ∷ []) L) l in
     let room : length (listing (r .paths ++ p ∷ [])) ≤ r .bookSize / 24 = omega (arith, listings-grow (r .paths ++ p ∷ []) L) in
-    let e : addRefusal r (stepBytes p) ≡ 0 = add-fits r p (w .0) (h .0) (omega arith) ∙ rw (le-leb (length (listing (r .paths ++ p ∷ []))) (r .bookSize / 24) room) in
-    (e, rw (e, path-back p (h .0)) (taken-all (joined r p) L (w .1) (h .1) (omega (arith, length-append (r .paths) (p ∷ []))) all))
+    let e : addRefusal r (stepBytes p) ≡ 0 = add-first r p z (w .0) (h .0) (omega arith) ∙ rw (le-leb (length (listing (r .paths ++ p ∷ []))) (r .bookSize / 24) room) in
+    (e, rw (e, path-back p (h .0)) (taken-all (joined r p) L z (w .1) (h .1) (omega (arith, length-append (r .paths) (p ∷ []))) all))
 
 abbrev TakenOrTwelve : List ℕ → Type 0
 TakenOrTwelve = All (λ n. (n ≡ 0) ⊎ (n ≡ 12))
 
-taken-or-twelve : (r : Recount) (L : List Steps) → AllWhole L → AllRanks L → length (r .paths) + length L ≤ 16777216 → TakenOrTwelve (answers r L)
+taken-or-twelve : (r : Recount) (L : List Steps) → r .base ≡ 0 → AllWhole L → AllRanks L → length (r .paths) + length L ≤ 16777216 → TakenOrTwelve (answers r L)
 unfolding runs recountStep
-taken-or-twelve r [] w h n = tt
-taken-or-twelve r (p ∷ L) w h n =
-    go (leb (length (listing (r .paths ++ p ∷ []))) (r .bookSize / 24)) (add-fits r p (w .0) (h .0) (omega arith))
-    (taken-or-twelve (joined r p) L (w .1) (h .1) (omega (arith, length-append (r .paths) (p ∷ [])))) (taken-or-twelve r L (w .1) (h .1) (omega arith))
+taken-or-twelve r [] z w h n = tt
+taken-or-twelve r (p ∷ L) z w h n =
+    go (leb (length (listing (r .paths ++ p ∷ []))) (r .bookSize / 24)) (add-first r p z (w .0) (h .0) (omega arith))
+    (taken-or-twelve (joined r p) L z (w .1) (h .1) (omega (arith, length-append (r .paths) (p ∷ [])))) (taken-or-twelve r L z (w .1) (h .1) (omega arith))
   where
     go : (t : Bool) → addRefusal r (stepBytes p) ≡ cond t 0 12 → TakenOrTwelve (answers (joined r p) L) → TakenOrTwelve (answers r L) → TakenOrTwelve (answers r (p ∷ L))
     go true e a b = (inl e, rw (e, path-back p (h .0)) a)
@@ -78,26 +75,26 @@ unfolding recountStep
 joins r p h e = rw (e, path-back p h)
 
 -- where all are taken, all have joined
-all-joined : (r : Recount) (L : List Steps) → AllRanks L → AllTaken (answers r L) → (runs recountStep r (adds L) .1 .paths ≡ r .paths ++ L) × (runs recountStep r (adds L) .1 .bookSize ≡ r .bookSize)
+all-joined : (r : Recount) (L : List Steps) → r .base ≡ 0 → AllRanks L → AllTaken (answers r L) → (since (runs recountStep r (adds L) .1) ≡ r .paths ++ L) × (runs recountStep r (adds L) .1 .bookSize ≡ r .bookSize)
 unfolding runs recountStep
-all-joined r [] h t = (sym (append-nil (r .paths)), refl)
-all-joined r (p ∷ L) h t =
+all-joined r [] z h t = (rw z (sym (append-nil (r .paths))), refl)
+all-joined r (p ∷ L) z h t =
     let one : recountStep r (add (stepBytes p)) .1 ≡ joined r p = joins r p (h .0) (t .0) in
     let left : runs recountStep r (adds (p ∷ L)) .1 ≡ runs recountStep (joined r p) (adds L) .1 = ap (λ (s : Recount). runs recountStep s (adds L) .1) one in
-    let rest = all-joined (joined r p) L (h .1) (rw one at (t .1)) in
-    (ap (λ (s : Recount). s .paths) left ∙ rest .0 ∙ append-assoc (r .paths) (p ∷ []) L, ap (λ (s : Recount). s .bookSize) left ∙ rest .1)
+    let rest = all-joined (joined r p) L z (h .1) (rw one at (t .1)) in
+    (ap since left ∙ rest .0 ∙ append-assoc (r .paths) (p ∷ []) L, ap (λ (s : Recount). s .bookSize) left ∙ rest .1)
 
 kept-adds : (r : Recount) → Kept r → (L : List Steps) → Kept (runs recountStep r (adds L) .1)
 kept-adds r k L = runs-image bookStep recountStep image Kept InBytes step-image r (adds L) k (adds-in-bytes L) .2
 
-some-twelve : (r : Recount) → Kept r → (L : List Steps) → AllWhole L → AllRanks L → length (r .paths) + length L ≤ 16777216 → r .bookSize / 24 < length (listing (r .paths ++ L))
+some-twelve : (r : Recount) → Kept r → (L : List Steps) → r .base ≡ 0 → AllWhole L → AllRanks L → length (r .paths) + length L ≤ 16777216 → r .bookSize / 24 < length (listing (r .paths ++ L))
     → among eqb 12 (answers r L) ≡ true
-some-twelve r k L w h n l = go (among eqb 12 (answers r L)) refl
+some-twelve r k L z w h n l = go (among eqb 12 (answers r L)) refl
   where
     go : (t : Bool) → among eqb 12 (answers r L) ≡ t → t ≡ true
     go true e = refl
     go false e =
-        let j = all-joined r L h (none-twelve (answers r L) (taken-or-twelve r L w h n) e) in
+        let j = all-joined r L z h (none-twelve (answers r L) (taken-or-twelve r L z w h n) e) in
         absurd (omega (arith, kept-adds r k L .listed-le, ap (λ (H : List Steps). length (listing H)) (j .0), ap (λ (b : ℕ). b / 24) (j .1)))
 
 -- ---- the machine, from an accepted opening on
@@ -154,13 +151,13 @@ module _
     pub serves : least L ≤ n → AllTaken (numbers (runs bookStep m (opening w book queue ∷ adds L) .0)) × (runs bookStep m (opening w book queue ∷ adds L) .1 .state .used ≡ least L)
     unfolding image
     serves l =
-        let taken : AllTaken (answers r L) = taken-all r L whole ranks (omega arith) (omega (arith, listing-least L ranks)) in (
+        let taken : AllTaken (answers r L) = taken-all r L refl whole ranks (omega arith) (omega (arith, listing-least L ranks)) in (
           rw (machine-numbers m w book queue opens L) (refl, taken),
-          ap (λ (s : Machine). s .state .used) (machine-left m w book queue opens L) ∙ ap (λ (H : List Steps). length (listing H)) (all-joined r L ranks taken .0) ∙ listing-least L ranks,
+          ap (λ (s : Machine). s .state .used) (machine-left m w book queue opens L) ∙ ap (λ (H : List Steps). length (listing H)) (all-joined r L refl ranks taken .0) ∙ listing-least L ranks,
         )
 
     -- with fewer some add is answered 12, and each that is not is taken
     pub lacks : n < least L → SomeTwelve (numbers (runs bookStep m (opening w book queue ∷ adds L) .0))
     lacks l =
         rw (machine-numbers m w book queue opens L)
-        (refl, some-twelve r (opened-kept m w book queue opens L) L whole ranks (omega arith) (omega (arith, listing-least L ranks)), taken-or-twelve r L whole ranks (omega arith))
+        (refl, some-twelve r (opened-kept m w book queue opens L) L refl whole ranks (omega arith) (omega (arith, listing-least L ranks)), taken-or-twelve r L refl whole ranks (omega arith))

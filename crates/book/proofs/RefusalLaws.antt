@@ -1,17 +1,20 @@
--- The recount's tests of lengths are those of the definitions that the code is held to. Assumes nothing.
+-- The recount's tests of lengths are those of the definitions that the code is held to; and when it gives an add of a whole path 12. Assumes nothing.
 use mathlib.Core.Path.{_≡_}
-use Prim.Native.Nat.{ℕ, _*_, _/_, _%_, _≤_}
+use Prim.Native.Nat.{ℕ, _*_, _/_, _%_, _≤_, _<_}
 use native.Mathlib.Omega.{arith}
-use mathlib.Core.List.{List}
-use mathlib.Core.Bool.{true, _&&_}
+use mathlib.Core.List.{List, [], _∷_, _++_}
+use mathlib.Core.Bool.{true, cond, _&&_}
 use lib.Dec.{leb, eqb}
 use lib.ListN.{length}
-use borrow.Author.Tests.{leb-true, eqb-true, le-leb}
-use Rattle.book.specs.Path.{wholePath}
+use borrow.Author.Tests.{leb-true, eqb-true, le-leb, lt-ltb, eq-eqb}
+use Rattle.book.specs.Path.{Steps, stepBytes, wholePath}
 use Rattle.book.specs.Form.{bookFits, queueFits}
 use Rattle.book.specs.Calls.{openNumber}
-use Rattle.book.specs.Claims.{openRefusal}
+use Rattle.book.specs.Recount.{listing}
+use Rattle.book.specs.Figures.{Whole, Ranks}
+use Rattle.book.specs.Claims.{Recount, since, openRefusal, addRefusal}
 use Rattle.priors.proofs.Tests.{both, answers-same}
+use Rattle.book.proofs.PathLaws.{length-stepBytes, path-back}
 
 pub book-fits : (book : List ℕ) → bookFits book ≡ leb 24 (length book) && (eqb (length book % 24) 0 && leb (length book) (24 * 16384))
 unfolding bookFits
@@ -64,3 +67,11 @@ path-fits path = answers-same _ _ there back
 pub open-number : (w : ℕ) (book queue : List ℕ) → openNumber w book queue ≡ openRefusal w (length book) (length queue)
 unfolding openNumber openRefusal queueFits
 open-number w book queue = rw (book-fits book)
+
+-- an add of a whole path, while H has fewer than 16,777,216
+pub add-fits : (r : Recount) (p : Steps) → Whole p → Ranks p → length (r .paths) < 16777216 → addRefusal r (stepBytes p) ≡ cond (leb (length (listing (since r ++ p ∷ []))) (r .bookSize / 24)) 0 12
+unfolding addRefusal
+add-fits r p w h l =
+    let n : ℕ = length (stepBytes p) in
+    let eight : n ≡ 8 * length p = length-stepBytes p in
+    rw (le-leb 8 n (omega (arith, w .0)), le-leb n 512 (omega (arith, w .1)), eq-eqb (n % 8) 0 (omega arith), lt-ltb (length (r .paths)) 16777216 l, path-back p h)

@@ -14,7 +14,7 @@ use Rattle.book.specs.Recount.{occurrences, windowPart, counted}
 use Rattle.book.specs.Figures.{total, AllWhole}
 use Rattle.priors.proofs.Orders.{Alike, alike, unlike, compared}
 use Rattle.book.proofs.Occurrences.{hit, occ-nil, occ-cons}
-use Rattle.book.proofs.Window.{window-drop}
+use Rattle.book.proofs.Window.{EndsWith, window-drop}
 use Rattle.book.proofs.Membership.{In, in-head, in-tail}
 
 -- ---- lengths of a path's keys
@@ -50,7 +50,7 @@ unfolding total
 total-whole [] h = omega arith
 total-whole (p ∷ H) h = omega (arith, total-whole H (h .1))
 
--- a figure of the window part is not above that of H
+-- a figure of the window part is not above that of paths that end with it
 module _ (f : Steps → ℕ) where
   total-drop : (n : ℕ) (H : List Steps) → total f (drop n H) ≤ total f H
   unfolding total
@@ -58,12 +58,12 @@ module _ (f : Steps → ℕ) where
   total-drop (suc n) [] = omega arith
   total-drop (suc n) (p ∷ H) = omega (arith, total-drop n H)
 
-  pub total-window : (W : ℕ) (H : List Steps) → total f (windowPart W H) ≤ total f H
-  total-window W H = let d = window-drop W H in rw (d .1) (total-drop (d .0) H)
+  pub total-window : (W : ℕ) (H L : List Steps) → EndsWith W H L → total f (windowPart W H) ≤ total f L
+  total-window W H L d = rw (d .1) (total-drop (d .0) L)
 
 pub counted-small : (W : ℕ) (H : List Steps) (k : ℕ) → AllWhole H → counted W H k ≤ 64 * length H
 unfolding counted
-counted-small W H k h = omega (arith, occ-length k (flatMap countedKeys (windowPart W H)), counted-steps (windowPart W H), total-window length W H, total-whole H h)
+counted-small W H k h = omega (arith, occ-length k (flatMap countedKeys (windowPart W H)), counted-steps (windowPart W H), total-window length W H H (window-drop W H), total-whole H h)
 
 -- ---- what rows count together that count how often their keys stand in a list, where each that stands there has one row
 

@@ -17,7 +17,7 @@ use Rattle.book.specs.Recount.{occurrences, windowPart, counted, listing
 use Rattle.book.specs.Figures.{total, endings, Ranks, AllRanks, Somewhere}
 use Rattle.book.specs.Visits.{arrivals, beginnings, visits, evidenceTotal}
 use Rattle.book.proofs.Occurrences.{occ-nil, occ-cons}
-use Rattle.book.proofs.Window.{counted-le}
+use Rattle.book.proofs.Window.{EndsWith, counted-le}
 use Rattle.book.proofs.Image.{ascends-listing}
 use Rattle.book.proofs.Membership.{In, once, listing-in}
 use Rattle.book.proofs.Sums.{counted-steps, total-window, tested, tested-once, sum-once}
@@ -80,39 +80,39 @@ module _ (a : ℕ) where
   node-tested [] = sym (occ-nil a)
   node-tested (k ∷ ks) = omega (arith, occ-cons a (nodeOf k) (map nodeOf ks), node-tested ks)
 
--- ---- the rows of H
+-- ---- the rows of H and L
 
-module _ (W : ℕ) (H : List Steps) where
-  counted-once : (k : ℕ) → In k (flatMap countedKeys (windowPart W H)) → occurrences k (listing H) ≡ 1
+module _ (W : ℕ) (H L : List Steps) (ends : EndsWith W H L) where
+  counted-once : (k : ℕ) → In k (flatMap countedKeys (windowPart W H)) → occurrences k (listing L) ≡ 1
   unfolding counted
-  counted-once k i = once 0 k (listing H) (ascends-listing H) (listing-in H k (omega (arith, counted-le W H k)))
+  counted-once k i = once 0 k (listing L) (ascends-listing L) (listing-in L k (omega (arith, counted-le W H L ends k)))
 
   -- all counts together are the steps of the window part
-  pub all-counts : countSum (rowsOf W H) ≡ total length (windowPart W H)
+  pub all-counts : countSum (rowsOf W H L) ≡ total length (windowPart W H)
   unfolding rowsOf counted
-  all-counts = sum-once (listing H) (flatMap countedKeys (windowPart W H)) counted-once ∙ counted-steps (windowPart W H)
+  all-counts = sum-once (listing L) (flatMap countedKeys (windowPart W H)) counted-once ∙ counted-steps (windowPart W H)
 
-  module _ (ranks : AllRanks H) (a : ℕ) where
+  module _ (ranks : AllRanks L) (a : ℕ) where
     -- a node's are its visits
-    pub total-visits : evidenceTotal a (rowsOf W H) ≡ visits W H a
+    pub total-visits : evidenceTotal a (rowsOf W H L) ≡ visits W H a
     unfolding rowsOf counted
     total-visits =
         let keys : List ℕ = flatMap countedKeys (windowPart W H) in
-        let ranks′ : AllRanks (windowPart W H) = ranks-window W H ranks in
-        total-tested a (λ k. occurrences k keys) (listing H)
-        ∙ tested-once (λ k. eqb a (nodeOf k)) (listing H) keys counted-once
+        let ranks′ : AllRanks (windowPart W H) = ranks-window W H L ends ranks in
+        total-tested a (λ k. occurrences k keys) (listing L)
+        ∙ tested-once (λ k. eqb a (nodeOf k)) (listing L) keys counted-once
         ∙ node-tested a keys
         ∙ ap (occurrences a) (nodes-all (windowPart W H) ranks′)
         ∙ stands-total a (windowPart W H) ranks′
         ∙ sym (visits-are W H a)
 
     -- 0 exactly where no path of the window part holds it
-    pub total-none : (evidenceTotal a (rowsOf W H) ≡ 0) ↔ (Somewhere (occurrences a) (windowPart W H) → ⊥)
+    pub total-none : (evidenceTotal a (rowsOf W H L) ≡ 0) ↔ (Somewhere (occurrences a) (windowPart W H) → ⊥)
     total-none = (
       λ e s. absurd (omega (arith, total-visits, visits-are W H a, total-above (occurrences a) (windowPart W H) (s .0) (s .1), s .2)),
       λ o. total-visits ∙ visits-are W H a ∙ nowhere (occurrences a) (windowPart W H) o,
     )
 
-  -- a node that no path of H holds has no visits
-  pub never-visited : (a : ℕ) → (Somewhere (occurrences a) H → ⊥) → visits W H a ≡ 0
-  never-visited a o = omega (arith, visits-are W H a, total-window (occurrences a) W H, nowhere (occurrences a) H o)
+  -- a node that no path of L holds has no visits
+  pub never-visited : (a : ℕ) → (Somewhere (occurrences a) L → ⊥) → visits W H a ≡ 0
+  never-visited a o = omega (arith, visits-are W H a, total-window (occurrences a) W H L ends, nowhere (occurrences a) L o)

@@ -1,5 +1,6 @@
 -- The window part where one more path joins: what leaves, and then the new window part, are the old one and the new path.
--- So whatever is counted over the window part loses what the leaving path counts and gains what the new one does. Assumes nothing.
+-- So whatever is counted over the window part loses what the leaving path counts and gains what the new one does. Paths that end with the window part list all that it
+-- counts. Assumes nothing.
 use mathlib.Core.Path.{_≡_, refl, _∙_}
 use Prim.Native.Nat.{ℕ, zero, suc, _+_, _-_, _≤_, _<_}
 use mathlib.Core.List.{List, [], _∷_, _++_, flatMap}
@@ -13,7 +14,7 @@ use borrow.Author.Tests.{leb-true, leb-false}
 use Rattle.book.specs.Path.{Steps, listedKeys, countedKeys}
 use Rattle.book.specs.Changes.{leftKeys}
 use Rattle.book.specs.Recount.{occurrences, windowPart, sequenceLength, counted}
-use Rattle.book.specs.Figures.{inWindow}
+use Rattle.book.specs.Figures.{inWindow, All}
 use Rattle.book.proofs.Passes.{leavingPath}
 use Rattle.book.proofs.Occurrences.{occ-paths, occ-one, occ-drop, counted-listed-all}
 
@@ -59,16 +60,26 @@ counted-step W H p k =
     let whole : occurrences k (flatMap countedKeys (left (leavingPath W H) ++ windowPart W (H ++ p ∷ []))) ≡ occurrences k (flatMap countedKeys (windowPart W H ++ p ∷ [])) = rw window-step in
     omega (arith, occ-paths countedKeys k (left (leavingPath W H)) (windowPart W (H ++ p ∷ [])), occ-paths countedKeys k (windowPart W H) (p ∷ []), occ-one countedKeys k p, left-keys k (leavingPath W H))
 
--- the window part is H without its first paths, all but the last W
-pub window-drop : (W : ℕ) (H : List Steps) → (n : ℕ) × (windowPart W H ≡ drop n H)
+-- the window part of H is L without its first paths
+abbrev pub EndsWith : ℕ → List Steps → List Steps → Type 0
+EndsWith W H L = (n : ℕ) × (windowPart W H ≡ drop n L)
+
+-- so with L as H: all but the last W
+pub window-drop : (W : ℕ) (H : List Steps) → EndsWith W H H
 unfolding windowPart
 window-drop zero H = (0, refl)
 window-drop (suc w) H = (length H - suc w, refl)
 
+-- what holds of each path holds of the last ones
+pub all-drop : {X : Type 0} (P : X → Type 0) (n : ℕ) (xs : List X) → All P xs → All P (drop n xs)
+all-drop P zero xs h = h
+all-drop P (suc n) [] h = h
+all-drop P (suc n) (x ∷ xs) h = all-drop P n xs (h .1)
+
 -- what the window part counts is listed
-pub counted-le : (W : ℕ) (H : List Steps) (k : ℕ) → counted W H k ≤ occurrences k (flatMap listedKeys H)
+pub counted-le : (W : ℕ) (H L : List Steps) → EndsWith W H L → (k : ℕ) → counted W H k ≤ occurrences k (flatMap listedKeys L)
 unfolding counted
-counted-le W H k = let d = window-drop W H in rw (d .1) (omega (arith, occ-drop countedKeys k (d .0) H, counted-listed-all k H))
+counted-le W H L d k = rw (d .1) (omega (arith, occ-drop countedKeys k (d .0) L, counted-listed-all k L))
 
 -- ---- the sequence length, from the window and the number of paths
 

@@ -1,4 +1,4 @@
--- What an opening and an add answer, and what they leave in the lent book and queue. A number is a refusal's; 0 is none. Assumes nothing.
+-- What an opening and an add answer, and what they leave in the lent book and queue. A number is a refusal's; 0 is none. A tidy is in `Tidy`. Assumes nothing.
 use mathlib.Core.Path.{_≡_}
 use Prim.Native.Nat.{ℕ, zero, suc, _+_, _-_, _*_, _%_, _/_, _≤_, _<_}
 use mathlib.Core.Bool.{true, cond, _&&_}
@@ -13,8 +13,8 @@ use Rattle.priors.specs.Refusals.{numberOf}
 use Rattle.book.specs.declared.trackers.Tracker.{Tracker}
 use Rattle.book.specs.declared.trackers.Opened.{Opened}
 use Rattle.book.specs.declared.trackers.Opened.the-variants.{Fresh, Refused as NotOpened}
-use Rattle.book.specs.declared.trackers.Added.{Added}
-use Rattle.book.specs.declared.trackers.Added.the-variants.{Taken, Refused as NotAdded}
+use Rattle.book.specs.declared.trackers.Changed.{Changed}
+use Rattle.book.specs.declared.trackers.Changed.the-variants.{Done, Refused as NotDone}
 use Rattle.book.specs.Limits.{maxWindow, maxAccepted, maxCount, maxSteps, entrySize, stepSize, placeSize}
 use Rattle.book.specs.Entries.{rows, bytesOf}
 use Rattle.book.specs.Path.{Steps, stepsOf, pathOf, wholePath, listedKeys}
@@ -23,6 +23,10 @@ use Rattle.book.specs.Changes.{touchAll, addRows, CountsUpTo, EndingsLis
 
 abbrev pub zeros : ℕ → List ℕ
 zeros n = replicate n 0
+
+-- a book of so many bytes that has these entries: the entries, and zeros to its end
+unfoldable pub bookOf : List Row → ℕ → List ℕ
+bookOf rs size = bytesOf rs ++ zeros (size - length (bytesOf rs))
 
 -- ---- answers
 
@@ -46,16 +50,16 @@ openedState (NotOpened r) = none
 abbrev pub openedAnswer : Opened → List ℕ → List ℕ → BookAnswer
 openedAnswer a book queue = record { number = openedNumber a; state = openedState a; book = book; queue = queue }
 
-abbrev pub addedNumber : Added → ℕ
-addedNumber (Taken t) = 0
-addedNumber (NotAdded r t) = numberOf r
+abbrev pub changedNumber : Changed → ℕ
+changedNumber (Done t) = 0
+changedNumber (NotDone r t) = numberOf r
 
-abbrev pub addedState : Added → Tracker
-addedState (Taken t) = t
-addedState (NotAdded r t) = t
+abbrev pub changedState : Changed → Tracker
+changedState (Done t) = t
+changedState (NotDone r t) = t
 
-abbrev pub addedAnswer : Added → List ℕ → List ℕ → BookAnswer
-addedAnswer a book queue = record { number = addedNumber a; state = some (addedState a); book = book; queue = queue }
+abbrev pub changedAnswer : Changed → List ℕ → List ℕ → BookAnswer
+changedAnswer a book queue = record { number = changedNumber a; state = some (changedState a); book = book; queue = queue }
 
 -- x where nothing is refused, else y
 abbrev pub unlessRefused {ℓ} : {X : Type ℓ} → ℕ → X → X → X

@@ -1,43 +1,65 @@
--- What the claim comes to without the recount (`Corollary` of divergence): H and W are read off the calls and the numbers that they were answered, as the paths
--- accepted since the last accepted opening and that opening's window; the book then tells which transitions and nodes stand in H, and how often in the window part; and
--- what goes in comes out, a node's counts together being its visits. Then what single calls leave, and what the form reads. Assumes nothing.
+-- What the claim comes to without the recount (`Corollary` of divergence): W, H and L are read off the calls and the numbers that they were answered. The book then
+-- tells which transitions and nodes stand in L, and how often in the window part of H; what goes in comes out, a node's counts together being its visits; 12 counts what
+-- L and the path list. Then what single calls leave, and what the form reads. Assumes nothing.
 use Prim.Native.Nat.{ℕ, suc, _+_, _*_, _^_, _<_, _≤_}
 use mathlib.Core.Path.{_≡_}
 use mathlib.Core.Logic.{_↔_}
 use mathlib.Core.List.{List, [], _∷_, _++_}
 use mathlib.Core.Option.{some}
+use mathlib.Core.Bool.{cond}
+use lib.Dec.{leb}
 use lib.ListN.{length, take}
 use Rattle.priors.specs.Word.{word}
 use Rattle.priors.specs.Rows.{Row, countOf}
 use Rattle.priors.specs.Priors.{countSum}
 use Rattle.book.specs.declared.trackers.Tracker.{Tracker}
-use Rattle.book.specs.Limits.{entrySize, placeSize}
+use Rattle.book.specs.Limits.{maxAccepted, entrySize, placeSize}
 use Rattle.book.specs.Keys.{endKey, childKey}
 use Rattle.book.specs.Entries.{rows}
-use Rattle.book.specs.Path.{Steps, pathOf}
-use Rattle.book.specs.Form.{filled, inForm}
+use Rattle.book.specs.Path.{Steps, pathOf, stepBytes}
+use Rattle.book.specs.Form.{capacity, filled, inForm}
 use Rattle.book.specs.Calls.{BookAnswer, zeros, unlessRefused, fresh, openNumber, openBook, openQueue, addNumber}
+use Rattle.book.specs.Tidy.{tidyNumber}
 use Rattle.book.specs.Recount.{occurrences, windowPart}
-use Rattle.book.specs.Figures.{total, transitions, endings, Somewhere}
+use Rattle.book.specs.Figures.{All, Ranks, Whole, total, transitions, endings, Somewhere}
 use Rattle.book.specs.Visits.{visits, evidenceTotal}
 use Rattle.book.specs.Memory.{least}
-use Rattle.book.specs.Claims.{BookCall, opening, add, Machine, bookStep}
+use Rattle.book.specs.Claims.{BookCall, opening, add, tidy, Machine, bookStep}
 
--- ---- what was accepted, told from calls and answers
+-- ---- what was accepted and what lists, told from calls and answers
 
--- the paths accepted since the last accepted opening; those in H were accepted before these calls
-unfoldable pub acceptedSince : List Steps → List BookCall → List BookAnswer → List Steps
-acceptedSince H [] answers = H
-acceptedSince H (call ∷ calls) [] = H
-acceptedSince H (opening window book queue ∷ calls) (answer ∷ answers) = acceptedSince (unlessRefused (answer .number) [] H) calls answers
-acceptedSince H (add path ∷ calls) (answer ∷ answers) = acceptedSince (unlessRefused (answer .number) (H ++ pathOf path ∷ []) H) calls answers
+-- W, H and L: the window of the last accepted opening; the paths accepted since; and those of them that list, which are those that stood in the window at the last tidy
+-- and those accepted since, or all of H where no tidy came
+pub record Heard : Type 0 where
+  pub window : ℕ
+  pub paths : List Steps
+  pub lists : List Steps
 
--- the window of the last accepted opening
-unfoldable pub windowSince : ℕ → List BookCall → List BookAnswer → ℕ
-windowSince W [] answers = W
-windowSince W (call ∷ calls) [] = W
-windowSince W (opening window book queue ∷ calls) (answer ∷ answers) = windowSince (unlessRefused (answer .number) window W) calls answers
-windowSince W (add path ∷ calls) (answer ∷ answers) = windowSince W calls answers
+-- before any call
+abbrev pub nothingHeard : Heard
+nothingHeard = record { window = 0; paths = []; lists = [] }
+
+-- after one more call, by its number; a refused one changes nothing
+abbrev pub heardWith : Heard → BookCall → ℕ → Heard
+heardWith h (opening window book queue) n = unlessRefused n (record { window = window; paths = []; lists = [] }) h
+heardWith h (add path) n = unlessRefused n (record { window = h .window; paths = h .paths ++ pathOf path ∷ []; lists = h .lists ++ pathOf path ∷ [] }) h
+heardWith h tidy n = unlessRefused n (record { window = h .window; paths = h .paths; lists = windowPart (h .window) (h .paths) }) h
+
+unfoldable pub heardOf : Heard → List BookCall → List BookAnswer → Heard
+heardOf h [] answers = h
+heardOf h (call ∷ calls) [] = h
+heardOf h (call ∷ calls) (answer ∷ answers) = heardOf (heardWith h call (answer .number)) calls answers
+
+abbrev pub NoTidy : BookCall → Type 0
+NoTidy (opening window book queue) = Unit {0}
+NoTidy (add path) = Unit {0}
+NoTidy tidy = ⊥
+
+-- where all paths list and no tidy comes, all list afterwards
+abbrev pub AllListWithoutTidies : Type 0
+AllListWithoutTidies =
+    (h : Heard) → h .lists ≡ h .paths → (calls : List BookCall) → All NoTidy calls → (answers : List BookAnswer)
+    → heardOf h calls answers .lists ≡ heardOf h calls answers .paths
 
 -- ---- what the book then tells
 
@@ -49,19 +71,24 @@ entriesOf m = rows (m .book) (m .state .used)
 abbrev pub HasRow : ℕ → List Row → Type 0
 HasRow k rs = (c : ℕ) × (countOf k rs ≡ some c)
 
-pub record Told (m : Machine) (W : ℕ) (H : List Steps) : Type 0 where
-  -- a transition is listed exactly when a path of H held it
-  pub transition-listed : (node child : ℕ) → child < 2 ^ 64 → HasRow (childKey node child) (entriesOf m) ↔ Somewhere (transitions node child) H
+pub record Told (m : Machine) (W : ℕ) (H L : List Steps) : Type 0 where
+  -- a transition is listed exactly when it stood in the window at the last tidy, or in a path accepted since
+  pub transition-listed : (node child : ℕ) → child < 2 ^ 64 → HasRow (childKey node child) (entriesOf m) ↔ Somewhere (transitions node child) L
   -- its count is its occurrences in the window part
   pub transition-count : (node child : ℕ) → child < 2 ^ 64 → (c : ℕ) → countOf (childKey node child) (entriesOf m) ≡ some c → c ≡ total (transitions node child) (windowPart W H)
-  -- a node is listed, with its ending, exactly when a path of H held it
-  pub node-listed : (node : ℕ) → HasRow (endKey node) (entriesOf m) ↔ Somewhere (occurrences node) H
+  -- a node is listed, with its ending, exactly when it stood in the window at the last tidy, or in a path accepted since
+  pub node-listed : (node : ℕ) → HasRow (endKey node) (entriesOf m) ↔ Somewhere (occurrences node) L
   -- the ending's count is how many paths of the window part end there
   pub ending-count : (node c : ℕ) → countOf (endKey node) (entriesOf m) ≡ some c → c ≡ total (endings node) (windowPart W H)
-  -- as many entries are used as H has different nodes and different transitions
-  pub used-least : m .state .used ≡ least H
-  -- of the paths of H, p in number and of s steps in all, at most 2s - p entries are used
+  -- as many entries are used as L has different nodes and different transitions
+  pub used-least : m .state .used ≡ least L
+  -- after p accepted paths of s steps in all at most 2s - p entries are used
   pub used-le : m .state .used + length H ≤ 2 * total length H
+  -- an add of a whole path, up to the last that is accepted at all, gets 12 exactly when L with the path needs more entries than the book has, and else is taken
+  pub twelve : (p : Steps) → Whole p → Ranks p → length H < maxAccepted → addNumber (m .state) (m .book) (m .queue) (stepBytes p) ≡ cond (leb (least (L ++ p ∷ [])) (capacity (m .book))) 0 12
+  -- a tidy right after a tidy changes nothing, and with a window of 0 none does
+  pub tidy-again : bookStep (bookStep m tidy .1) tidy .1 ≡ bookStep m tidy .1
+  pub tidy-of-all : W ≡ 0 → bookStep m tidy .1 ≡ m
   -- a node's evidence total is its visits, listed or not
   pub total-visits : (node : ℕ) → evidenceTotal node (entriesOf m) ≡ visits W H node
   -- the total is 0 exactly where no path of the window part holds the node
@@ -89,6 +116,9 @@ abbrev pub RefusedAddLeavesAll : Type 0
 RefusedAddLeavesAll =
     (m : Machine) (path : List ℕ) (n : ℕ) → addNumber (m .state) (m .book) (m .queue) path ≡ suc n
     → bookStep m (add path) .1 ≡ m
+
+abbrev pub RefusedTidyLeavesAll : Type 0
+RefusedTidyLeavesAll = (m : Machine) (n : ℕ) → tidyNumber (m .state) (m .book) (m .queue) ≡ suc n → bookStep m tidy .1 ≡ m
 
 -- ---- the form
 

@@ -60,6 +60,6 @@ AllWhole = All Whole
 abbrev pub Listed : ℕ → List Row → Type 0
 Listed k rs = (c : ℕ) × (look k rs ≡ some c)
 
--- some path of H has the figure f above 0
+-- some path of a list has the figure f above 0
 abbrev pub Somewhere : (Steps → ℕ) → List Steps → Type 0
 Somewhere f H = (p : Steps) × List·Memᴰ p H × (0 < f p)

@@ -1,5 +1,5 @@
--- The plain recount: W and H, a list of paths, and what is listed and counted for them, from the paths alone. It looks at no book and no queue; the images at
--- the end say what bytes stand for W and H. Assumes nothing.
+-- The plain recount: W and H, a list of paths, and what is listed and counted for them, from the paths alone. L are those of H that list: all of them, until a tidy
+-- leaves out what had left the window. It looks at no book and no queue; the images at the end say what bytes stand for W, H and L. Assumes nothing.
 use Prim.Native.Nat.{ℕ, zero, suc, _-_, _*_, _%_, compare}
 use mathlib.Core.List.{List, [], _∷_, _++_, map, flatMap}
 use mathlib.Core.Option.{Option, none, some}
@@ -8,10 +8,9 @@ use lib.Dec.{eqb}
 use lib.ListN.{length, drop}
 use Rattle.priors.specs.Word.{wordBytes}
 use Rattle.priors.specs.Rows.{Row, row, choose}
-use Rattle.book.specs.Limits.{maxSteps, stepSize, placeSize, entrySize}
-use Rattle.book.specs.Entries.{bytesOf}
+use Rattle.book.specs.Limits.{maxSteps, stepSize, placeSize}
 use Rattle.book.specs.Path.{Steps, stepBytes, listedKeys, countedKeys}
-use Rattle.book.specs.Calls.{zeros}
+use Rattle.book.specs.Calls.{zeros, bookOf}
 
 -- how often k stands in a list
 unfoldable pub occurrences : ℕ → List ℕ → ℕ
@@ -27,6 +26,10 @@ windowPart (suc w) H = drop (length H - suc w) H
 unfoldable pub sequenceLength : ℕ → List Steps → ℕ
 sequenceLength W H = length (windowPart W H)
 
+-- how many paths of H lie before the window part
+unfoldable pub beforeWindow : ℕ → List Steps → ℕ
+beforeWindow W H = length H - sequenceLength W H
+
 -- an ascending list of keys with k in it, once
 unfoldable pub enter : ℕ → List ℕ → List ℕ
 enter k [] = k ∷ []
@@ -36,23 +39,23 @@ unfoldable pub enterAll : List ℕ → List ℕ → List ℕ
 enterAll [] xs = xs
 enterAll (k ∷ ks) xs = enterAll ks (enter k xs)
 
--- what the paths of H list, each key once, ascending
+-- what the paths of L list, each key once, ascending
 unfoldable pub listing : List Steps → List ℕ
-listing H = enterAll (flatMap listedKeys H) []
+listing L = enterAll (flatMap listedKeys L) []
 
 -- a key's count: its occurrences, with repeats, in the window part
 unfoldable pub counted : ℕ → List Steps → ℕ → ℕ
 counted W H k = occurrences k (flatMap countedKeys (windowPart W H))
 
--- the nodes and transitions listed, with their counts
-unfoldable pub rowsOf : ℕ → List Steps → List Row
-rowsOf W H = map (λ k. row k (counted W H k)) (listing H)
+-- the nodes and transitions that L lists, with their counts in the window part of H
+unfoldable pub rowsOf : ℕ → List Steps → List Steps → List Row
+rowsOf W H L = map (λ k. row k (counted W H k)) (listing L)
 
--- ---- the images of W and H
+-- ---- the images of W, H and L
 
 -- the book's bytes: entries ascending, zeros after
-unfoldable pub bookImage : ℕ → List Steps → ℕ → List ℕ
-bookImage W H size = bytesOf (rowsOf W H) ++ zeros (size - entrySize * length (listing H))
+abbrev pub bookImage : ℕ → List Steps → List Steps → ℕ → List ℕ
+bookImage W H L size = bookOf (rowsOf W H L) size
 
 -- the latest of the paths, numbered from k on, that lies in place j of W; `before` where none does. For H as a whole k starts at 0 and `before` as none
 unfoldable pub held : ℕ → ℕ → ℕ → Option Steps → List Steps → Option Steps

@@ -7,4 +7,5 @@ pub mod paths; // a path added in one pass, and taken away
 pub mod room; // whether a path's nodes and transitions fit the book
 pub mod queue; // places of the queue
 pub mod form; // what each call tests
-pub mod trackers; // the state, openings and adds
+pub mod tidying; // entries that count nothing dropped
+pub mod trackers; // the state, openings, adds and tidies

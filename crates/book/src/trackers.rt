@@ -8,7 +8,8 @@ ghost use Rattle.book.specs.Entries.{rows, Rewritten};
 ghost use Rattle.book.specs.Changes.{fadeAll, leftKeys};
 ghost use Rattle.book.specs.Figures.{inWindow};
 ghost use Rattle.book.specs.Form.{inForm};
-ghost use Rattle.book.specs.Calls.{openedAnswer, addedAnswer, openAnswer, addAnswer, nextPlace, leaving, queueWith, stateAfter, bookAfter, Ready, Leaves};
+ghost use Rattle.book.specs.Tidy.{tidyAnswer};
+ghost use Rattle.book.specs.Calls.{openedAnswer, changedAnswer, openAnswer, addAnswer, nextPlace, leaving, queueWith, stateAfter, bookAfter, Ready, Leaves};
 use crate::form::book_fits;
 use crate::form::in_form;
 use crate::form::queue_fits;
@@ -22,6 +23,7 @@ use crate::queue::clear;
 use crate::queue::oldest;
 use crate::queue::put_path;
 use crate::room::has_room;
+use crate::tidying::drop_zeros;
 use priors::refusals::Reason;
 use priors::refusals::Refusal;
 
@@ -37,9 +39,9 @@ pub enum Opened {
     Refused(Refusal),
 }
 
-// What an add answers: the state with the path in it, or the state as it was and why.
-pub enum Added {
-    Taken(Tracker),
+// What an add and a tidy answer: the state that they leave, or the state as it was and why.
+pub enum Changed {
+    Done(Tracker),
     Refused(Refusal, Tracker),
 }
 
@@ -67,30 +69,30 @@ impl Tracker {
     }
 
     // Adds a path and takes the oldest past the window away: 9 for the form, 10 for the path, 11 and 12 where it is one too many.
-    pub fn add_path(mut self, book: &mut [u8], queue: &mut [u8], path: &[u8]) -> Added
-        ensures { λ r. ⌜ addedAnswer r (now (book .exit)) (now (queue .exit)) ≡ addAnswer self (now (book .entry)) (now (queue .entry)) (now (path .entry)) ⌝ }
+    pub fn add_path(mut self, book: &mut [u8], queue: &mut [u8], path: &[u8]) -> Changed
+        ensures { λ r. ⌜ changedAnswer r (now (book .exit)) (now (queue .exit)) ≡ addAnswer self (now (book .entry)) (now (queue .entry)) (now (path .entry)) ⌝ }
     {
         if !in_form(self, book, queue) {
-            return Added::Refused(Refusal::Plain(Reason::Form), self);
+            return Changed::Refused(Refusal::Plain(Reason::Form), self);
         }
         self.add_formed(book, queue, path)
     }
 
     // The same behind its form test. Not for users, who would have to show the form.
-    pub fn add_formed(mut self, book: &mut [u8], queue: &mut [u8], path: &[u8]) -> Added
+    pub fn add_formed(mut self, book: &mut [u8], queue: &mut [u8], path: &[u8]) -> Changed
         requires { ⌜ inForm self (now book) (now queue) ≡ true ⌝ }
-        ensures { λ r. ⌜ addedAnswer r (now (book .exit)) (now (queue .exit)) ≡ addAnswer self (now (book .entry)) (now (queue .entry)) (now (path .entry)) ⌝ }
+        ensures { λ r. ⌜ changedAnswer r (now (book .exit)) (now (queue .exit)) ≡ addAnswer self (now (book .entry)) (now (queue .entry)) (now (path .entry)) ⌝ }
     {
         if !whole_path(path) {
-            return Added::Refused(Refusal::Plain(Reason::PathLength), self);
+            return Changed::Refused(Refusal::Plain(Reason::PathLength), self);
         }
         if MAX_ACCEPTED <= self.accepted {
-            return Added::Refused(Refusal::Plain(Reason::PathsFull), self);
+            return Changed::Refused(Refusal::Plain(Reason::PathsFull), self);
         }
         if !has_room(book, self.used as usize, path) {
-            return Added::Refused(Refusal::Plain(Reason::BookFull), self);
+            return Changed::Refused(Refusal::Plain(Reason::BookFull), self);
         }
-        Added::Taken(self.add_within(book, queue, path))
+        Changed::Done(self.add_within(book, queue, path))
     }
 
     // Adds a path that no test turns back.
@@ -145,6 +147,19 @@ impl Tracker {
         }
         let at = self.next_place();
         put_path(queue, at, path);
+    }
+
+    // Drops every child that counts nothing and every node whose ending and children all count nothing, and zeroes the book behind the
+    // kept entries: 9 for the form.
+    pub fn tidy(mut self, book: &mut [u8], queue: &[u8]) -> Changed
+        ensures { λ r. ⌜ changedAnswer r (now (book .exit)) (now (queue .entry)) ≡ tidyAnswer self (now (book .entry)) (now (queue .entry)) ⌝ }
+    {
+        if !in_form(self, book, queue) {
+            return Changed::Refused(Refusal::Plain(Reason::Form), self);
+        }
+        let used = drop_zeros(book, self.used as usize);
+        self.used = used as u32;
+        Changed::Done(self)
     }
 
     // The number of paths in the window part.

@@ -1,4 +1,4 @@
--- The claim over lists of openings, adds and readings, proved: an opening or an add goes as in the book's claim, and a reading of a recount's image sees the form,
+-- The claim over lists of openings, adds, tidies and readings, proved: an opening, an add or a tidy goes as book says of it, and a reading of a recount's image sees the form,
 -- the nodes and the sequence length that the recount has. Assumes nothing.
 use mathlib.Core.Path.{_≡_, refl, sym, ap, _∙_}
 use Prim.Native.Nat.{ℕ}
@@ -8,9 +8,9 @@ use lib.ListN.{length}
 use Rattle.book.specs.Recount.{sequenceLength}
 use Rattle.book.specs.Figures.{All}
 use Rattle.book.specs.Claims as Book
-use Rattle.book.specs.Claims.{BookCall, opening, bookStep, Machine, Recount, openRefusal, recountStep, image}
+use Rattle.book.specs.Claims.{BookCall, opening, bookStep, Machine, Recount, since, openRefusal, recountStep, image}
 use Rattle.book.proofs.Window.{sequence-length}
-use Rattle.book.proofs.Kept.{Kept}
+use Rattle.book.proofs.Kept.{Kept, since-ends, since-ranks}
 use Rattle.book.proofs.FormImage.{rows-are, in-form}
 use Rattle.book.proofs.Simulation.{Alike, AllAlike, runs-first, runs-after, runs-image}
 use Rattle.book.proofs.Claimed as Opened
@@ -27,15 +27,15 @@ module _ (r : Recount) (k : Kept r) where
   pub form-fits : formRefusal (image r .state) (image r .book) (image r .queue) ≡ 0
   form-fits = ap (λ (b : Bool). cond b 0 9) (in-form r k)
 
-  pub nodes-are : nodesOf (image r .state) (image r .book) ≡ recountNodes (r .window) (r .paths)
+  pub nodes-are : nodesOf (image r .state) (image r .book) ≡ recountNodes (r .window) (r .paths) (since r)
   unfolding image
-  nodes-are = ap listedNodes (rows-are r k) ∙ listed-nodes (r .window) (r .paths) (k .ranks)
+  nodes-are = ap listedNodes (rows-are r k) ∙ listed-nodes (r .window) (r .paths) (since r) (since-ends r k) (since-ranks r k)
 
   pub length-is : sequenceLen (image r .state) ≡ sequenceLength (r .window) (r .paths)
   unfolding image
   length-is = sym (sequence-length (r .window) (r .paths))
 
-  seen-is : seenOf (image r .state) (image r .book) (image r .queue) ≡ recountSeen (r .window) (r .paths)
+  seen-is : seenOf (image r .state) (image r .book) (image r .queue) ≡ recountSeen (r .window) (r .paths) (since r)
   seen-is = λ i. record { form = form-fits i; listed = nodes-are i; sequenceLength = length-is i }
 
   pub read-answer : (c : ReadingCall) → step (image r) (read c) .0 ≡ recounted r (read c) .0
@@ -44,7 +44,7 @@ module _ (r : Recount) (k : Kept r) where
 
 -- ---- one call, and any calls
 
--- an opening or an add: as the book says of it
+-- an opening, an add or a tidy: as book says of it
 change-alike : (m : Machine) (r : Recount) (c : BookCall) → Alike bookStep recountStep image Kept Book.InBytes m r c → Alike step recounted image Kept InBytes m r (change c)
 unfolding step recounted
 change-alike m r c a = (ap changed (a .0), a .1, a .2)

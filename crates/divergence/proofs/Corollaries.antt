@@ -1,7 +1,7 @@
 -- The corollaries, proved: the claim says of which recount the machine is the image and which answers it gave, and without its readings a list of calls runs as its
--- openings and adds do, of which W and H are read off. Assumes nothing.
+-- openings, adds and tidies do, of which W, H and the paths that list are read off. Assumes nothing.
 use mathlib.Core.Path.{_≡_, refl, sym, ap, _∙_}
-use Prim.Native.Nat.{ℕ, _≤_}
+use Prim.Native.Nat.{ℕ, _≤_, zero-le}
 use native.Mathlib.Omega.{arith}
 use mathlib.Core.List.{List, [], _∷_, _++_}
 use lib.ListN.{length}
@@ -9,11 +9,11 @@ use Rattle.book.specs.Path.{Steps}
 use Rattle.book.specs.Calls.{BookAnswer}
 use Rattle.book.specs.Figures.{Whole, AllWhole, Ranks, AllRanks}
 use Rattle.book.specs.Memory.{least, adds, numbers}
-use Rattle.book.specs.Claims.{BookCall, opening, add, Machine, bookStep, Recount, restarted, recountStep, image, runs}
-use Rattle.book.specs.Corollaries.{acceptedSince, windowSince}
-use Rattle.book.proofs.Kept.{Kept}
+use Rattle.book.specs.Claims.{BookCall, opening, add, tidy, Machine, bookStep, Recount, since, restarted, tidied, recountStep, image, runs}
+use Rattle.book.specs.Corollaries.{Heard, nothingHeard, heardOf}
+use Rattle.book.proofs.Kept.{Kept, since-ends, since-ranks}
 use Rattle.book.proofs.RefusalLaws.{open-number}
-use Rattle.book.proofs.Corollaries.{since-paths, since-window, add-not-nine, told as book-told}
+use Rattle.book.proofs.Corollaries.{heardIn, heard-runs, add-not-nine, told as book-told}
 use Rattle.book.proofs.LeastLaws.{listing-least, needs-some, order-length, order-all, order-least}
 use Rattle.book.proofs.MemoryLaws.{serves, lacks}
 use Rattle.divergence.specs.Asked.{Seen}
@@ -25,7 +25,7 @@ use Rattle.divergence.proofs.Claimed.{nodes-are, read-answer, claim-kep
 
 -- ---- readings leave no trace
 
--- an answer to a reading is none to an opening or an add
+-- an answer to a reading is none to a change
 reading-passed : (s : Seen) (c : ReadingCall) (answers : List Answer) → changedAnswers (reading s c ∷ answers) ≡ changedAnswers answers
 unfolding reading changedAnswers
 reading-passed s (probVector p scale point o) answers = refl
@@ -58,7 +58,8 @@ unfolding runs recounted recountStep
 never-nine r [] = tt
 never-nine r (change (opening w book queue) ∷ cs) = never-nine (recountStep r (opening w book queue) .1) cs
 never-nine r (change (add path) ∷ cs) = (add-not-nine r path, never-nine (recountStep r (add path) .1) cs)
-never-nine r (read c ∷ cs) = (reading-not-nine (r .window) (r .paths) c, never-nine r cs)
+never-nine r (change tidy ∷ cs) = (refl, never-nine (tidied r) cs)
+never-nine r (read c ∷ cs) = (reading-not-nine (r .window) (r .paths) (since r) c, never-nine r cs)
 
 -- ---- memory quoted to the entry
 
@@ -89,7 +90,7 @@ memory-to-the-entry L whole ranks number = (
 totals : (r : Recount) → Kept r → TotalsAreVisits (image r) (r .window) (r .paths)
 totals r k a =
     let listed = book-told r k .node-listed a in
-    (λ h. rw (nodes-are r k) (evidence-visits (r .window) (r .paths) (k .ranks) a (listed .0 h)), λ h. rw (nodes-are r k) (evidence-missing (r .window) (r .paths) (k .ranks) a (λ s. h (listed .1 s))))
+    (λ h. rw (nodes-are r k) (evidence-visits (r .window) (r .paths) (since r) (since-ends r k) (since-ranks r k) a (listed .0 h)), λ h. rw (nodes-are r k) (evidence-missing (r .window) (r .paths) (since r) (since-ends r k) (since-ranks r k) a (λ s. h (listed .1 s))))
 
 pub corollary : Corollary
 unfolding recounted
@@ -98,17 +99,20 @@ corollary m first openings w book queue e cs bytes =
     let all : List Call = first ++ change (opening w book queue) ∷ cs in
     let alike = claim-kept m none first openings w book queue (sym (open-number w book queue) ∙ e) cs bytes in
     let last : Recount = runs recounted none all .1 in
-    let plain = only-changes recountStep (λ (r : Recount). recountSeen (r .window) (r .paths)) none all in
+    let plain = only-changes recountStep (λ (r : Recount). recountSeen (r .window) (r .paths) (since r)) none all in
     let answers : changedAnswers (runs step m all .0) ≡ runs recountStep none (changesOf all) .0 = ap changedAnswers (alike .0) ∙ plain .0 in
-    let W-is : windowSince 0 (changesOf all) (changedAnswers (runs step m all .0)) ≡ last .window = ap (windowSince 0 (changesOf all)) answers ∙ sym (since-window none (changesOf all)) ∙ ap (λ (r : Recount). r .window) (sym (plain .1)) in
-    let H-is : acceptedSince [] (changesOf all) (changedAnswers (runs step m all .0)) ≡ last .paths = ap (acceptedSince [] (changesOf all)) answers ∙ sym (since-paths none (changesOf all)) ∙ ap (λ (r : Recount). r .paths) (sym (plain .1)) in (
-      rw (alike .1, W-is, H-is) (book-told last (alike .2)),
+    let heard : Heard = heardOf nothingHeard (changesOf all) (changedAnswers (runs step m all .0)) in
+    let is : heard ≡ heardIn last = ap (heardOf nothingHeard (changesOf all)) answers ∙ heard-runs none zero-le (changesOf all) ∙ ap heardIn (sym (plain .1)) in
+    let W-is : heard .window ≡ last .window = ap (λ (h : Heard). h .window) is in
+    let H-is : heard .paths ≡ last .paths = ap (λ (h : Heard). h .paths) is in
+    let L-is : heard .lists ≡ since last = ap (λ (h : Heard). h .lists) is in (
+      rw (alike .1, W-is, H-is, L-is) (book-told last (alike .2)),
       rw (alike .1, W-is, H-is) (totals last (alike .2)),
-      λ c. ap (λ (n : Machine). step n (read c) .0) (alike .1) ∙ read-answer last (alike .2) c ∙ known last c _ _ W-is H-is,
+      λ c. ap (λ (n : Machine). step n (read c) .0) (alike .1) ∙ read-answer last (alike .2) c ∙ known last c _ _ _ W-is H-is L-is,
       rw (alike .0) (never-nine none all),
-      rw H-is (omega (arith, listing-least (last .paths) (alike .2 .ranks), alike .2 .listed-le, alike .2 .sizes .book-le)),
+      rw L-is (omega (arith, listing-least (since last) (since-ranks last (alike .2)), alike .2 .listed-le, alike .2 .sizes .book-le)),
       rw H-is (memory-to-the-entry (last .paths) (alike .2 .whole) (alike .2 .ranks) (alike .2 .paths-le)),
     )
   where
-    known : (r : Recount) (c : ReadingCall) (W : ℕ) (H : List Steps) → W ≡ r .window → H ≡ r .paths → recounted r (read c) .0 ≡ reading (recountSeen W H) c
-    known r c W H p q = rw (p, q)
+    known : (r : Recount) (c : ReadingCall) (W : ℕ) (H L : List Steps) → W ≡ r .window → H ≡ r .paths → L ≡ since r → recounted r (read c) .0 ≡ reading (recountSeen W H L) c
+    known r c W H L p q l = rw (p, q, l)

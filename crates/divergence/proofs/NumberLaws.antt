@@ -147,11 +147,11 @@ div-stats-other G D nodes children layer ns len =
     unless-other (tables-not G D) (unless-other (priors-not nodes children layer) (stats-other len (walk G D nodes children layer ns) (walk-not G D nodes children layer ns)))
 
 -- no reading is lent another tracker yet
-pub reading-not-nine : (W : ℕ) (H : List Steps) (c : ReadingCall) → answerNumber (reading (recountSeen W H) c) ≡ 9 → otherForm c ≡ 9
+pub reading-not-nine : (W : ℕ) (H L : List Steps) (c : ReadingCall) → answerNumber (reading (recountSeen W H L) c) ≡ 9 → otherForm c ≡ 9
 unfolding reading
-reading-not-nine W H (probVector p scale point o) e =
-    absurd (mapped-other vector (mapped-other _ (prob-other (p .nodes) (p .children) (layerOf (p .floor)) (recountNodes W H) (rankOf scale point) (roomIn o))) .not-nine e)
-reading-not-nine W H (evidenceProbVector scale point o) e = absurd (mapped-other vector (mapped-other _ (evidence-other (recountNodes W H) (rankOf scale point) (roomIn o))) .not-nine e)
-reading-not-nine W H (posteriorKlDivergence t p scale point) e = absurd (mapped-other kl (kl-other (t .G) (t .D) (p .nodes) (p .children) (layerOf (p .floor)) (recountNodes W H) (rankOf scale point)) .not-nine e)
-reading-not-nine W H (allNodeKl t p o) e = absurd (mapped-other allKl (mapped-other _ (all-other (t .G) (t .D) (p .nodes) (p .children) (layerOf (p .floor)) (recountNodes W H) (roomIn o))) .not-nine e)
-reading-not-nine W H (klDivStats t p) e = absurd (mapped-other stats (div-stats-other (t .G) (t .D) (p .nodes) (p .children) (layerOf (p .floor)) (recountNodes W H) (sequenceLength W H)) .not-nine e)
+reading-not-nine W H L (probVector p scale point o) e =
+    absurd (mapped-other vector (mapped-other _ (prob-other (p .nodes) (p .children) (layerOf (p .floor)) (recountNodes W H L) (rankOf scale point) (roomIn o))) .not-nine e)
+reading-not-nine W H L (evidenceProbVector scale point o) e = absurd (mapped-other vector (mapped-other _ (evidence-other (recountNodes W H L) (rankOf scale point) (roomIn o))) .not-nine e)
+reading-not-nine W H L (posteriorKlDivergence t p scale point) e = absurd (mapped-other kl (kl-other (t .G) (t .D) (p .nodes) (p .children) (layerOf (p .floor)) (recountNodes W H L) (rankOf scale point)) .not-nine e)
+reading-not-nine W H L (allNodeKl t p o) e = absurd (mapped-other allKl (mapped-other _ (all-other (t .G) (t .D) (p .nodes) (p .children) (layerOf (p .floor)) (recountNodes W H L) (roomIn o))) .not-nine e)
+reading-not-nine W H L (klDivStats t p) e = absurd (mapped-other stats (div-stats-other (t .G) (t .D) (p .nodes) (p .children) (layerOf (p .floor)) (recountNodes W H L) (sequenceLength W H)) .not-nine e)

@@ -15,6 +15,7 @@ use Rattle.book.specs.Figures.{total, transitions, endings, Ranks, AllRanks}
 use Rattle.book.proofs.KeyLaws.{key-child, key-parts, child-lt}
 use Rattle.book.proofs.ManyRows.{ascends-entered}
 use Rattle.book.proofs.Occurrences.{occ-nil, occ-cons, occ-append}
+use Rattle.book.proofs.Window.{EndsWith}
 use Rattle.book.proofs.Image.{ascends-listing}
 use Rattle.book.proofs.Meaning.{ends-listed, ends-counted, child-listed, child-counted, occ-total, ranks-window, stands-total}
 use Rattle.book.proofs.Membership.{In, in-tail, in-head, in-cons, in-append, in-none, enterAll-in, in-entered, in-listing, listing-in, same-members}
@@ -170,14 +171,14 @@ module _ (f : ℕ → ℕ) (children : ℕ → List ℕ) (ranked : (a c : ℕ) �
 
 -- ---- the counts
 
-module _ (W : ℕ) (H : List Steps) (ranks : AllRanks H) where
-  pub counted-ending : (a : ℕ) → counted W H (endKey a) ≡ total (endings a) (windowPart W H)
+module _ (W : ℕ) (H L : List Steps) (ends : EndsWith W H L) (ranks : AllRanks L) where
+  counted-ending : (a : ℕ) → counted W H (endKey a) ≡ total (endings a) (windowPart W H)
   unfolding counted
-  counted-ending a = occ-total (endKey a) countedKeys (endings a) (ends-counted a) (windowPart W H) (ranks-window W H ranks)
+  counted-ending a = occ-total (endKey a) countedKeys (endings a) (ends-counted a) (windowPart W H) (ranks-window W H L ends ranks)
 
-  pub counted-child : (a b : ℕ) → b < 2 ^ 64 → counted W H (childKey a b) ≡ total (transitions a b) (windowPart W H)
+  counted-child : (a b : ℕ) → b < 2 ^ 64 → counted W H (childKey a b) ≡ total (transitions a b) (windowPart W H)
   unfolding counted
-  counted-child a b r = occ-total (childKey a b) countedKeys (transitions a b) (child-counted a b r) (windowPart W H) (ranks-window W H ranks)
+  counted-child a b r = occ-total (childKey a b) countedKeys (transitions a b) (child-counted a b r) (windowPart W H) (ranks-window W H L ends ranks)
 
   children-counted : (a : ℕ) (cs : List ℕ) → ((c : ℕ) → In c cs → c < 2 ^ 64)
       → map (λ b. row b (counted W H (childKey a b))) cs ≡ map (λ b. row b (total (transitions a b) (windowPart W H))) cs
@@ -185,16 +186,16 @@ module _ (W : ℕ) (H : List Steps) (ranks : AllRanks H) where
   children-counted a (c ∷ cs) r =
       ap₂ (λ (n : ℕ) (rs : List Row). row c n ∷ rs) (counted-child a c (r c (in-head c c cs refl))) (children-counted a cs (λ d i. r d (in-tail d c cs i)))
 
-  node-is : (a : ℕ) → nodeFor (counted W H) (λ b. childrenListed b H) (child-rank H ranks) a ≡ nodeCounted W H a
+  node-is : (a : ℕ) → nodeFor (counted W H) (λ b. childrenListed b L) (child-rank L ranks) a ≡ nodeCounted W H L a
   unfolding nodeCounted
   node-is a = λ i. record {
     address = a;
-    evidence = record { ending = counted-ending a i; children = children-counted a (childrenListed a H) (child-rank H ranks a) i };
+    evidence = record { ending = counted-ending a i; children = children-counted a (childrenListed a L) (child-rank L ranks a) i };
   }
 
-  pub listed-nodes : listedNodes (rowsOf W H) ≡ recountNodes W H
+  pub listed-nodes : listedNodes (rowsOf W H L) ≡ recountNodes W H L
   unfolding listedNodes rowsOf recountNodes
   listed-nodes =
-      ap (λ (ks : List ℕ). spread (map (λ k. row k (counted W H k)) ks) .1) (listing-nodes H ranks)
-      ∙ ap (λ (s : List Row × List Node). s .1) (spread-nodes (counted W H) (λ a. childrenListed a H) (child-rank H ranks) (nodesListed H))
-      ∙ (λ i. map (λ a. node-is a i) (nodesListed H))
+      ap (λ (ks : List ℕ). spread (map (λ k. row k (counted W H k)) ks) .1) (listing-nodes L ranks)
+      ∙ ap (λ (s : List Row × List Node). s .1) (spread-nodes (counted W H) (λ a. childrenListed a L) (child-rank L ranks) (nodesListed L))
+      ∙ (λ i. map (λ a. node-is a i) (nodesListed L))

@@ -1,6 +1,6 @@
--- Demand 3 for one tracker: the claim over every list of openings, adds and readings. The machine keeps state, book and queue and answers by the definitions that
--- the functions' contracts cite. The recount keeps W and H and applies the same formulas to its own lists. From an accepted opening on every answer, every refusal
--- and every byte is the recount's. Assumes nothing.
+-- Demand 3 for one tracker: the claim over every list of openings, adds, tidies and readings. The machine keeps state, book and queue and answers by the definitions
+-- that the functions' contracts cite. The recount keeps W, H and the base and applies the same formulas to its own lists. From an accepted opening on every answer,
+-- every refusal and every byte is the recount's. Assumes nothing.
 use Prim.Native.Nat.{ℕ}
 use mathlib.Core.Path.{_≡_}
 use mathlib.Core.List.{List, [], _∷_, _++_}
@@ -15,7 +15,7 @@ use Rattle.book.specs.Calls.{BookAnswer}
 use Rattle.book.specs.Recount as Paths
 use Rattle.book.specs.Figures.{All}
 use Rattle.book.specs.Claims as Book
-use Rattle.book.specs.Claims.{BookCall, opening, Machine, bookStep, Recount, openRefusal, recountStep, image, runs}
+use Rattle.book.specs.Claims.{BookCall, opening, Machine, bookStep, Recount, since, openRefusal, recountStep, image, runs}
 use Rattle.divergence.specs.RecountNodes.{recountNodes}
 use Rattle.divergence.specs.Readings.{Reading, Statistics, mapped}
 use Rattle.divergence.specs.Answers.{VectorResult, AllResult}
@@ -41,7 +41,7 @@ pub data Result : Type 0 where
   allKl : AllResult → Result
   stats : Statistics → Result
 
--- an opening or an add answers with what it leaves; a reading tells its result, with what lies in its lent outputs afterwards
+-- an opening, an add or a tidy answers with what it leaves; a reading tells its result, with what lies in its lent outputs afterwards
 pub data Answer : Type 0 where
   changed : BookAnswer → Answer
   told : Reading Result → List Output → Answer
@@ -59,7 +59,7 @@ reading s (klDivStats tables priors) = told (mapped stats (statsAsked s tables p
 
 -- ---- the machine and the recount
 
--- a call, by what openings and adds do and what a reading sees; a reading changes nothing
+-- a call, by what openings, adds and tidies do and what a reading sees; a reading changes nothing
 abbrev pub called : {State : Type 0} → (State → BookCall → BookAnswer × State) → (State → Seen) → State → Call → Answer × State
 called book seen s (change c) = let after = book s c in (changed (after .0), after .1)
 called book seen s (read c) = (reading (seen s) c, s)
@@ -68,12 +68,12 @@ called book seen s (read c) = (reading (seen s) c, s)
 unfoldable pub step : Machine → Call → Answer × Machine
 step = called bookStep (λ (m : Machine). seenOf (m .state) (m .book) (m .queue))
 
--- what a reading sees of W and H, told from the paths alone; never 9 for the list's own tracker
-abbrev pub recountSeen : ℕ → List Steps → Seen
-recountSeen W H = record { form = 0; listed = recountNodes W H; sequenceLength = Paths.sequenceLength W H }
+-- what a reading sees of W, H and the paths L that list, told from the paths alone; never 9 for the list's own tracker
+abbrev pub recountSeen : ℕ → List Steps → List Steps → Seen
+recountSeen W H L = record { form = 0; listed = recountNodes W H L; sequenceLength = Paths.sequenceLength W H }
 
 unfoldable pub recounted : Recount → Call → Answer × Recount
-recounted = called recountStep (λ (r : Recount). recountSeen (r .window) (r .paths))
+recounted = called recountStep (λ (r : Recount). recountSeen (r .window) (r .paths) (since r))
 
 -- ---- the claim
 
@@ -86,7 +86,7 @@ InBytes (change c) = Book.InBytes c
 InBytes (read c) = Unit {0}
 
 -- whatever the machine and the recount were before, and whatever openings stand first, refused or not: with an accepted opening and any calls after it, every answer of
--- the list is the recount's, and the machine afterwards is the image of the recount's W and H
+-- the list is the recount's, and the machine afterwards is the image of the recount's W, H and base
 abbrev pub Claim : Type 0
 Claim =
     (m : Machine) (r : Recount) (first : List Call) → All IsOpening first

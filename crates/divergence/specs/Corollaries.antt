@@ -1,6 +1,7 @@
--- What the claim comes to without the recount: H and W are read off the openings and adds and their answers; the book tells what stands in H and how often in the
--- window part, a reading answers by W, H and what it is lent, and the evidence total of a node is its visits; readings leave no trace; 9 never comes from the list's own
--- tracker; and what the paths need is the least number of entries that serves. And from the definitions alone: no reading reads index 0 of a table. Assumes nothing.
+-- What the claim comes to without the recount: W, H and L (`Heard` of book) are read off the openings, adds and tidies and their answers; the book tells what stands in
+-- L and how often in the window part of H, a reading answers by these and what it is lent, and the evidence total of a node is its visits; readings leave no trace; 9
+-- never comes from the list's own tracker, and a tidy is never refused; and what the paths need is the least number of entries that serves. And from the definitions
+-- alone: no reading reads index 0 of a table. Assumes nothing.
 use Prim.Native.Nat.{ℕ, _*_, _≤_, _<_}
 use mathlib.Core.Path.{_≡_}
 use mathlib.Core.List.{List, [], _∷_, _++_, List·Permᴰ}
@@ -15,8 +16,8 @@ use Rattle.book.specs.Calls.{BookAnswer, openNumber}
 use Rattle.book.specs.Figures.{All, AllWhole, AllRanks}
 use Rattle.book.specs.Visits.{visits}
 use Rattle.book.specs.Memory.{least, adds, numbers, AllTaken, SomeTwelve}
-use Rattle.book.specs.Claims.{BookCall, opening, add, Machine, bookStep, runs}
-use Rattle.book.specs.Corollaries.{acceptedSince, windowSince, entriesOf, HasRow, Told}
+use Rattle.book.specs.Claims.{BookCall, opening, add, tidy, Machine, bookStep, runs}
+use Rattle.book.specs.Corollaries.{nothingHeard, heardOf, entriesOf, HasRow, Told}
 use Rattle.divergence.specs.Nodes.{evidenceOf}
 use Rattle.divergence.specs.Readings.{Reading, refused, nothing, answered, nodesOf}
 use Rattle.divergence.specs.Asked.{Seen, Output, klAsked, allAsked, statsAsked}
@@ -24,7 +25,7 @@ use Rattle.divergence.specs.Claims.{ReadingCall, Call, change, read, Ans
 
 -- ---- readings leave no trace
 
--- the openings and adds among the calls, and the answers to them
+-- the openings, adds and tidies among the calls, and the answers to them
 unfoldable pub changesOf : List Call → List BookCall
 changesOf [] = []
 changesOf (change call ∷ calls) = call ∷ changesOf calls
@@ -57,43 +58,44 @@ answerNumber (told result outputs) = readingNumber result
 abbrev pub otherForm : ReadingCall → ℕ
 otherForm call = 0
 
--- 9 never comes from the list's own tracker: no add is answered 9, and no reading but by another tracker that it is lent
+-- 9 never comes from the list's own tracker: no add is answered 9, no tidy is refused, and no reading is answered 9 but by another tracker that it is lent
 abbrev pub NeverNine : List Call → List Answer → Type 0
 NeverNine [] answers = Unit {0}
 NeverNine (call ∷ calls) [] = Unit {0}
 NeverNine (change (opening window book queue) ∷ calls) (answer ∷ answers) = NeverNine calls answers
 NeverNine (change (add path) ∷ calls) (answer ∷ answers) = (answerNumber answer ≡ 9 → ⊥) × NeverNine calls answers
+NeverNine (change tidy ∷ calls) (answer ∷ answers) = (answerNumber answer ≡ 0) × NeverNine calls answers
 NeverNine (read call ∷ calls) (answer ∷ answers) = (answerNumber answer ≡ 9 → otherForm call ≡ 9) × NeverNine calls answers
 
 -- ---- memory quoted to the entry
 
--- the openings and adds among the calls are an opening in a book of n entries and then an add of each path of L; readings may stand anywhere. The window is any up to
+-- the changes among the calls are an opening in a book of n entries and then an add of each path of P, and no tidy; readings may stand anywhere. The window is any up to
 -- 1,024 that the queue serves, and what book and queue hold is any. The limits are written out, as in the claim
-pub record Adds (n : ℕ) (L : List Steps) (calls : List Call) : Type 0 where
+pub record Adds (n : ℕ) (P : List Steps) (calls : List Call) : Type 0 where
   pub window : ℕ
   pub book : List ℕ
   pub queue : List ℕ
   pub window-le : window ≤ 1024
   pub queue-serves : 516 * window ≤ length queue
   pub book-size : length book ≡ 24 * n
-  pub changes : changesOf calls ≡ opening window book queue ∷ adds L
+  pub changes : changesOf calls ≡ opening window book queue ∷ adds P
 
 -- the numbers that they are answered
 abbrev pub numbersOf : Machine → List Call → List ℕ
 numbersOf m calls = numbers (changedAnswers (runs step m calls .0))
 
--- the different nodes plus the different transitions of L are the least number of entries that serves. It is an entry or more where L has a path or more. Whatever the
--- order of L and whatever there was before: in a book of that many or more, up to 16,384, every add is taken, and that many are then used; in a smaller one of an entry
+-- the different nodes plus the different transitions of P are the least number of entries that serves. It is an entry or more where P has a path or more. Whatever the
+-- order of P and whatever there was before: in a book of that many or more, up to 16,384, every add is taken, and that many are then used; in a smaller one of an entry
 -- or more some add is answered 12, and each that is not is taken
 abbrev pub LeastServes : List Steps → Type 0
-LeastServes L =
-    (1 ≤ length L → 1 ≤ least L)
-    × ((L′ : List Steps) → List·Permᴰ L L′ → (n : ℕ) → 1 ≤ n → n ≤ 16384 → (m : Machine) (calls : List Call) → Adds n L′ calls
-    → (least L ≤ n → AllTaken (numbersOf m calls) × (runs step m calls .1 .state .used ≡ least L)) × (n < least L → SomeTwelve (numbersOf m calls)))
+LeastServes P =
+    (1 ≤ length P → 1 ≤ least P)
+    × ((P′ : List Steps) → List·Permᴰ P P′ → (n : ℕ) → 1 ≤ n → n ≤ 16384 → (m : Machine) (calls : List Call) → Adds n P′ calls
+    → (least P ≤ n → AllTaken (numbersOf m calls) × (runs step m calls .1 .state .used ≡ least P)) × (n < least P → SomeTwelve (numbersOf m calls)))
 
 -- so it is with any paths within the limits, whether or not they were ever added
 abbrev pub MemoryToTheEntry : Type 0
-MemoryToTheEntry = (L : List Steps) → AllWhole L → AllRanks L → length L ≤ 16777216 → LeastServes L
+MemoryToTheEntry = (P : List Steps) → AllWhole P → AllRanks P → length P ≤ 16777216 → LeastServes P
 
 -- ---- what book and readings tell
 
@@ -104,9 +106,9 @@ TotalsAreVisits m W H =
     → (HasRow (endKey node) (entriesOf m) → Option·map total (evidenceOf node (nodesOf (m .state) (m .book))) ≡ some (visits W H node))
     × ((HasRow (endKey node) (entriesOf m) → ⊥) → evidenceOf node (nodesOf (m .state) (m .book)) ≡ none)
 
--- whatever there was before: after any openings, one that is accepted and any calls, the book tells what the paths accepted since the last accepted opening hold, in
--- totals that are visits, and a reading answers by these paths and that opening's window; and what these paths need is at most 16,384 and the least number of entries
--- that serves them
+-- whatever there was before: after any openings, one that is accepted and any calls, the book tells what the paths that list hold, in totals that are visits, and a
+-- reading answers by these, by the paths accepted since the last accepted opening and by that opening's window; what the paths that list need is at most 16,384; and what
+-- the accepted ones need is the least number of entries that serves them without a tidy
 abbrev pub Corollary : Type 0
 Corollary =
     (m : Machine) (first : List Call) → All IsOpening first
@@ -114,10 +116,12 @@ Corollary =
     → (calls : List Call) → All InBytes calls
     → let all = first ++ change (opening window book queue) ∷ calls in
     let ran = runs step m all in
-    let W = windowSince 0 (changesOf all) (changedAnswers (ran .0)) in
-    let H = acceptedSince [] (changesOf all) (changedAnswers (ran .0)) in
-    Told (ran .1) W H × TotalsAreVisits (ran .1) W H × ((call : ReadingCall) → step (ran .1) (read call) .0 ≡ reading (recountSeen W H) call) × NeverNine all (ran .0)
-    × (least H ≤ 16384) × LeastServes H
+    let heard = heardOf nothingHeard (changesOf all) (changedAnswers (ran .0)) in
+    let W = heard .window in
+    let H = heard .paths in
+    let L = heard .lists in
+    Told (ran .1) W H L × TotalsAreVisits (ran .1) W H × ((call : ReadingCall) → step (ran .1) (read call) .0 ≡ reading (recountSeen W H L) call) × NeverNine all (ran .0)
+    × (least L ≤ 16384) × LeastServes H
 
 -- ---- index 0 of the tables
 

@@ -7,8 +7,8 @@ use lib.Ieee.{Float}
 use Rattle.priors.specs.Children.{ChildLook}
 use Rattle.book.specs.declared.trackers.Tracker.{Tracker}
 use Rattle.book.specs.declared.trackers.Opened.{Opened}
-use Rattle.book.specs.declared.trackers.Added.{Added}
-use Rattle.book.specs.declared.trackers.Added.the-variants.{Taken, Refused as NotAdded}
+use Rattle.book.specs.declared.trackers.Changed.{Changed}
+use Rattle.book.specs.declared.trackers.Changed.the-variants.{Done, Refused as NotDone}
 use Rattle.book.specs.Calls.{BookAnswer, openedState, unlessRefused}
 use Rattle.divergence.specs.Readings.{Statistics}
 use Rattle.divergence.specs.Asked.{Seen, seenOf}
@@ -35,10 +35,10 @@ numbersOr (some t) before = numbersOf t
 abbrev pub openedNumbers : Opened → List ℕ → List ℕ
 openedNumbers answer before = numbersOr (openedState answer) before
 
--- a refused add leaves the state as it was
-abbrev pub addedNumbers : Added → List ℕ → List ℕ
-addedNumbers (Taken t) before = numbersOf t
-addedNumbers (NotAdded r t) before = before
+-- a refused add or tidy leaves the state as it was
+abbrev pub changedNumbers : Changed → List ℕ → List ℕ
+changedNumbers (Done t) before = numbersOf t
+changedNumbers (NotDone r t) before = before
 
 abbrev pub keptNumbers : BookAnswer → List ℕ → List ℕ
 keptNumbers a before = unlessRefused (a .number) (numbersOr (a .state) before) before

@@ -4,15 +4,15 @@ ghost use mathlib.Core.Path.{_≡_};
 ghost use Rattle.priors.specs.Refusals.{checkedNumber, namedNode};
 ghost use Rattle.priors.specs.Children.{countTold};
 ghost use Rattle.priors.specs.Lookups.{childAnswer};
-ghost use Rattle.book.specs.Calls.{openedNumber, addedNumber};
+ghost use Rattle.book.specs.Calls.{openedNumber, changedNumber};
 ghost use Rattle.divergence.specs.Answers.{vectorAnswer, klAnswer, allAnswer, statsAnswer};
 ghost use Rattle.baseline.specs.Training.{trainAnswer};
 ghost use Rattle.baseline.specs.Stats.{baselineAnswer};
 ghost use Rattle.exports.specs.Codes.{code, written, scaleOr, pointOr, scaleNamed, pointNamed};
-ghost use Rattle.exports.specs.Outputs.{trackerOf, openedNumbers, addedNumbers, readOf, placesOf, endingOf, itself, allCounts, fourFigures, threeCounts, tenFigures};
+ghost use Rattle.exports.specs.Outputs.{trackerOf, openedNumbers, changedNumbers, readOf, placesOf, endingOf, itself, allCounts, fourFigures, threeCounts, tenFigures};
 use baseline::baselines::BaselineStats;
 use baseline::training::Trained;
-use book::trackers::Added;
+use book::trackers::Changed;
 use book::trackers::Opened;
 use book::trackers::Tracker;
 use divergence::answers::AllNodeKl;
@@ -97,16 +97,16 @@ pub fn tell_opened(answer: Opened, state: &mut [u32; 3]) -> u32
     }
 }
 
-pub fn tell_added(answer: Added, state: &mut [u32; 3]) -> u32
-    ensures { λ r. ⌜ r ≡ addedNumber answer ⌝ }
-    ensures { λ _. ⌜ now (state .exit) ≡ addedNumbers answer (now (state .entry)) ⌝ }
+pub fn tell_changed(answer: Changed, state: &mut [u32; 3]) -> u32
+    ensures { λ r. ⌜ r ≡ changedNumber answer ⌝ }
+    ensures { λ _. ⌜ now (state .exit) ≡ changedNumbers answer (now (state .entry)) ⌝ }
 {
     match answer {
-        Added::Taken(t) => {
+        Changed::Done(t) => {
             *state = [t.window, t.used, t.accepted];
             0
         }
-        Added::Refused(r, _) => number(r),
+        Changed::Refused(r, _) => number(r),
     }
 }
 

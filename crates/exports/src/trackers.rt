@@ -1,9 +1,10 @@
-// Opening a tracker and adding a path. The tracker's three numbers stand in a lent array: window, entries used, paths accepted. A
+// Opening a tracker, adding a path and tidying its book. The tracker's three numbers stand in a lent array: window, entries used, paths accepted. A
 // refused call leaves all that is lent as it was.
 ghost use mathlib.Core.Path.{_≡_};
 ghost use Rattle.book.specs.Calls.{openAnswer, addAnswer};
+ghost use Rattle.book.specs.Tidy.{tidyAnswer};
 ghost use Rattle.exports.specs.Outputs.{trackerOf, numbersOr, keptNumbers};
-use crate::answers::tell_added;
+use crate::answers::tell_changed;
 use crate::answers::tell_opened;
 use crate::answers::tracker_of;
 use book::trackers::Tracker;
@@ -40,5 +41,17 @@ pub extern "C" fn teakpool_add_path(
 {
     let t = tracker_of(state);
     let answer = t.add_path(book, queue, path);
-    tell_added(answer, state)
+    tell_changed(answer, state)
+}
+
+// Number 9.
+#[no_mangle]
+pub extern "C" fn teakpool_tidy(state: &mut [u32; 3], book: &mut [u8], queue: &[u8]) -> u32
+    ensures { λ r. ⌜ r ≡ tidyAnswer (trackerOf (now (state .entry))) (now (book .entry)) (now (queue .entry)) .number ⌝ }
+    ensures { λ _. ⌜ now (book .exit) ≡ tidyAnswer (trackerOf (now (state .entry))) (now (book .entry)) (now (queue .entry)) .book ⌝ }
+    ensures { λ _. ⌜ now (state .exit) ≡ keptNumbers (tidyAnswer (trackerOf (now (state .entry))) (now (book .entry)) (now (queue .entry))) (now (state .entry)) ⌝ }
+{
+    let t = tracker_of(state);
+    let answer = t.tidy(book, queue);
+    tell_changed(answer, state)
 }

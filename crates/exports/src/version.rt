@@ -5,14 +5,14 @@ ghost use Prim.Native.Nat.{_+_, _*_};
 
 const MAJOR: u32 = 0;
 
-const MINOR: u32 = 3;
+const MINOR: u32 = 4;
 
-const PATCH: u32 = 2;
+const PATCH: u32 = 0;
 
-// Version 0.3.2: major times 1,000,000, minor times 1,000 and patch.
+// Version 0.4.0: major times 1,000,000, minor times 1,000 and patch.
 #[no_mangle]
 pub extern "C" fn teakpool_version() -> u32
-    ensures { λ r. ⌜ r ≡ 0 * 1000000 + 3 * 1000 + 2 ⌝ }
+    ensures { λ r. ⌜ r ≡ 0 * 1000000 + 4 * 1000 + 0 ⌝ }
 {
     MAJOR * 1000000 + MINOR * 1000 + PATCH
 }

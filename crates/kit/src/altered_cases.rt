@@ -11,7 +11,7 @@ use crate::tape::bytes_at;
 use crate::tape::forward;
 use crate::tape::part;
 use crate::tape::word;
-use book::trackers::Added;
+use book::trackers::Changed;
 use book::trackers::Tracker;
 use priors::refusals::number;
 
@@ -35,11 +35,11 @@ fn state_at(tape: &[u8], at: usize) -> Tracker {
 
 pub fn added(t: Tracker, book: &mut [u8], queue: &mut [u8], path: &[u8]) -> Answer {
     match t.add_path(book, queue, path) {
-        Added::Refused(r, tracker) => Answer {
+        Changed::Refused(r, tracker) => Answer {
             number: number(r),
             tracker,
         },
-        Added::Taken(tracker) => Answer { number: 0, tracker },
+        Changed::Done(tracker) => Answer { number: 0, tracker },
     }
 }
 

@@ -1,5 +1,5 @@
 // Replays calls.bin and large.bin: lists of openings and adds on one tracker, each call's number, state and sums, and at the end
-// every byte of book and queue.
+// every byte of book and queue. A tidy, which tidies.bin has, is told as an add is.
 use crate::memory::after_places;
 use crate::memory::all_zero;
 use crate::memory::fill;
@@ -12,7 +12,7 @@ use crate::tape::bytes_at;
 use crate::tape::forward;
 use crate::tape::part;
 use crate::tape::word;
-use book::trackers::Added;
+use book::trackers::Changed;
 use book::trackers::Opened;
 use book::trackers::Tracker;
 use priors::refusals::number;
@@ -120,6 +120,21 @@ fn with_state(p: Play, tracker: Tracker) -> Play {
     }
 }
 
+// The play after an add or a tidy, whose answer is to stand at a place.
+fn changed(p: Play, a: Changed, tape: &[u8], at: usize, book: &[u8], queue: &[u8]) -> Play {
+    match a {
+        Changed::Refused(r, after) => compared(
+            with_state(p, after),
+            tape,
+            at,
+            number(r),
+            book,
+            queue,
+        ),
+        Changed::Done(after) => compared(with_state(p, after), tape, at, 0, book, queue),
+    }
+}
+
 // An add, whose path stands at the place of the play.
 pub fn add_call(p: Play, tape: &[u8], book: &mut [u8], queue: &mut [u8]) -> Play {
     let path = bytes_at(tape, p.at);
@@ -133,17 +148,19 @@ pub fn add_call(p: Play, tape: &[u8], book: &mut [u8], queue: &mut [u8]) -> Play
         return broken(p);
     }
     let tracker = p.tracker;
-    match tracker.add_path(&mut book[..book_len], &mut queue[..queue_len], path) {
-        Added::Refused(r, after) => compared(
-            with_state(p, after),
-            tape,
-            answer,
-            number(r),
-            book,
-            queue,
-        ),
-        Added::Taken(after) => compared(with_state(p, after), tape, answer, 0, book, queue),
+    let a = tracker.add_path(&mut book[..book_len], &mut queue[..queue_len], path);
+    changed(p, a, tape, answer, book, queue)
+}
+
+// A tidy, which has no arguments.
+pub fn tidy_call(p: Play, tape: &[u8], book: &mut [u8], queue: &[u8]) -> Play {
+    let book_len = p.book_len;
+    if book.len() < book_len {
+        return broken(p);
     }
+    let tracker = p.tracker;
+    let a = tracker.tidy(&mut book[..book_len], part(queue, 0, p.queue_len));
+    changed(p, a, tape, p.at, book, queue)
 }
 
 // The play at another place.

@@ -13,7 +13,7 @@ mod altered_cases; // altered.bin
 mod outputs; // a lent output
 mod vector_calls; // readings of probabilities
 mod kl_calls; // readings of divergences
-mod readings_cases; // readings.bin
+mod readings_cases; // readings.bin and tidies.bin
 mod stats_cases; // training.bin: figures asked of baselines
 mod train_cases; // training.bin: trainings
 mod training_cases; // training.bin
@@ -79,7 +79,25 @@ fn readings() {
     let n = read_file(b"readings.bin", &mut tape);
     let mut book = [0u8; 1536];
     let mut queue = [0u8; 4644];
-    readings_cases::replay(part(&tape, 0, n), &mut book, &mut queue).print(b"readings");
+    readings_cases::replay(
+        part(&tape, 0, n),
+        readings_cases::READINGS,
+        &mut book,
+        &mut queue,
+    ).print(b"readings");
+}
+
+fn tidies() {
+    let mut tape = [0u8; 65536];
+    let n = read_file(b"tidies.bin", &mut tape);
+    let mut book = [0u8; 1536];
+    let mut queue = [0u8; 4644];
+    readings_cases::replay(
+        part(&tape, 0, n),
+        readings_cases::TIDIES,
+        &mut book,
+        &mut queue,
+    ).print(b"tidies");
 }
 
 fn training() {
@@ -95,6 +113,7 @@ fn main() {
     large_calls();
     altered();
     readings();
+    tidies();
     training();
     openings();
 }

@@ -1,5 +1,5 @@
-// Replays readings.bin: lists of openings, adds and readings on one tracker, every answer, every output place afterwards, and at
-// the end every byte of book and queue.
+// Replays readings.bin and tidies.bin: lists of openings, adds, tidies and readings on one tracker, every answer, every output place
+// afterwards, and at the end every byte of book and queue.
 use crate::calls_cases::Play;
 use crate::calls_cases::add_call;
 use crate::calls_cases::broken;
@@ -8,6 +8,7 @@ use crate::calls_cases::moved;
 use crate::calls_cases::nothing_open;
 use crate::calls_cases::open_call;
 use crate::calls_cases::same_end;
+use crate::calls_cases::tidy_call;
 use crate::kl_calls::all_call;
 use crate::kl_calls::node_call;
 use crate::kl_calls::stats_call;
@@ -21,8 +22,10 @@ use crate::tape::word;
 use crate::vector_calls::evidence_call;
 use crate::vector_calls::vector_call;
 
-// The letters TPR1.
-const MAGIC: u32 = 827478100;
+// The letters TPR1 and TPY1.
+pub const READINGS: u32 = 827478100;
+
+pub const TIDIES: u32 = 827936852;
 
 // The play, and the places of the tables and of the priors that readings are lent.
 struct Lending {
@@ -80,6 +83,9 @@ fn call(l: Lending, tape: &[u8], book: &mut [u8], queue: &mut [u8]) -> Lending {
         let after = forward(after_bytes(tape, after_bytes(tape, at)), 1);
         return lent(moved(p, after), l.tables, at);
     }
+    if kind == 10 {
+        return lent(tidy_call(p, tape, book, queue), l.tables, l.priors);
+    }
     let read = reading(
         kind,
         lent(p, l.tables, l.priors),
@@ -116,9 +122,9 @@ fn same_case(tape: &[u8], at: usize, book: &mut [u8], queue: &mut [u8]) -> bool 
         )
 }
 
-pub fn replay(tape: &[u8], book: &mut [u8], queue: &mut [u8]) -> Tally {
+pub fn replay(tape: &[u8], magic: u32, book: &mut [u8], queue: &mut [u8]) -> Tally {
     let mut tally = Tally::new();
-    if word(tape, 0) != MAGIC {
+    if word(tape, 0) != magic {
         return tally;
     }
     let n = word(tape, 1);

@@ -5,7 +5,7 @@ ghost use mathlib.Core.Bool.{true};
 ghost use Rattle.book.specs.Form.{inForm};
 ghost use Rattle.book.specs.Calls.{addAnswer};
 ghost use Rattle.exports.specs.Outputs.{trackerOf, keptNumbers};
-use exports::answers::tell_added;
+use exports::answers::tell_changed;
 use exports::answers::tracker_of;
 
 // Numbers 10 to 12.
@@ -24,5 +24,5 @@ pub extern "C" fn pace_add_formed(
 {
     let t = tracker_of(state);
     let answer = t.add_formed(book, queue, path);
-    tell_added(answer, state)
+    tell_changed(answer, state)
 }

@@ -59,6 +59,16 @@ pub fn add_path(state: &mut [u32; 3], book: &mut [u8], queue: &mut [u8], path: &
     }
 }
 
+/// Drops what counts 0: such children's entries, and nodes whose counts are all 0.
+pub fn tidy(state: &mut [u32; 3], book: &mut [u8], queue: &[u8]) -> u32 {
+    // SAFETY: as above.
+    unsafe {
+        raw::teakpool_tidy(
+            state.as_mut_ptr(), book.as_mut_ptr(), book.len(), queue.as_ptr(), queue.len(),
+        )
+    }
+}
+
 /// A node's probabilities, prior and evidence together.
 pub fn prob_vector(
     (state, book, queue): Tracker,

@@ -66,6 +66,16 @@ extern "C" {
         path: *const u8, path_len: usize,
     ) -> u32;
 
+    /// Drops the children's entries with a count of 0 and the nodes whose counts are all 0, closes the
+    /// gaps and zeroes the book from there to its end. The queue is only read.
+    ///
+    /// # Safety
+    /// `state` points at three numbers, the others are slices as the module says, and `state` and
+    /// `book` overlap nothing.
+    pub fn teakpool_tidy(
+        state: *mut u32, book: *mut u8, book_len: usize, queue: *const u8, queue_len: usize,
+    ) -> u32;
+
     /// A node's probabilities, prior and evidence together.
     ///
     /// # Safety

@@ -1,8 +1,8 @@
 //! The drift watch of a steering kit as a safe Rust crate over the proved archive, for x86-64 Linux.
 //! A [`Tracker`] counts the paths that a machine takes through a tree of nodes, in a book and a queue
-//! that it is lent; [`Tables`] and [`Priors`] are lent to readings and trainings, and a child's count can
-//! be asked for in priors alone; a [`Baseline`] tells what figures are usual at a sequence length. The
-//! rules are in the repository's docs/RULES.md.
+//! that it is lent, and [tidies](Tracker::tidy) the book when it is told to; [`Tables`] and [`Priors`] are
+//! lent to readings and trainings, and a child's count can be asked for in priors alone; a [`Baseline`]
+//! tells what figures are usual at a sequence length. The rules are in the repository's docs/RULES.md.
 //!
 //! A call that is turned back gives a [`Refusal`] and changes nothing that it was lent, but for a
 //! training that has begun. A reading that has no answer gives `Ok(None)`, a look-up of a child that
@@ -75,7 +75,7 @@ pub use tracker::{
     try_path, KLDivergenceStats, NodeKlList, Output, ProbVector, State, Tracker, ENTRY_BYTES, PLACE_BYTES,
 };
 
-/// The crate's version, as `"0.3.2"`.
+/// The crate's version, as `"0.4.0"`.
 pub const VERSION: &str = env!("CARGO_PKG_VERSION");
 
 /// The linked archive's version: major, minor, patch.

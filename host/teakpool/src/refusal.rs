@@ -42,13 +42,17 @@ pub enum Refusal {
     /// 11: 16,777,216 paths accepted.
     PathsFull,
     /// 12: listed nodes plus transitions would exceed capacity.
+    ///
+    /// Where paths have left the window, [`Tracker::tidy`](crate::Tracker::tidy) may make room for the
+    /// path.
     BookFull,
     /// 13: output holds fewer places than the answer.
     OutputShort,
     /// 14: evidence child, zero count included, not in the prior; with the node.
     ///
     /// A transition that the prior has never seen is the strongest drift there is. Once it is in the
-    /// book, every later `all_node_kl` and `kl_div_stats` is refused until the tracker is opened anew.
+    /// book, every later `all_node_kl` and `kl_div_stats` is refused until the tracker is opened anew, or
+    /// [tidied](crate::Tracker::tidy) when no path of the window has the transition any more.
     /// So try a path with [`try_path`](crate::try_path) before it is added, report this as a finding,
     /// and do not add the path; [`Priors::child`](crate::Priors::child), asked for each step that comes
     /// right after the node, tells which one its prior does not have.

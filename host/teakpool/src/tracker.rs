@@ -15,7 +15,9 @@ pub struct State {
     /// The window, 0 for all paths.
     pub window: u32,
     /// Entries used in the book: the different nodes and the different transitions of all paths accepted
-    /// since the opening. It is the least capacity that takes these paths ([`Tracker::open`]).
+    /// since the opening. It is the least capacity that takes these paths ([`Tracker::open`]). After a
+    /// [`Tracker::tidy`] they are those of the paths that were in the window then, and of those accepted
+    /// since.
     pub used: u32,
     /// Paths accepted.
     pub accepted: u32,
@@ -54,11 +56,13 @@ impl State {
 /// let stats = tracker.kl_div_stats(tables, priors)?;
 /// assert!((stats.sum - (47.0 / 60.0 - 2.0_f64.ln())).abs() < 1.0e-14);
 ///
-/// // The window is 1, so this path takes the place of the first. 0/9 keeps its entry.
+/// // The window is 1, so this path takes the place of the first. 0/9 keeps its entry until a tidy.
 /// tracker.add_path(&[node])?;
 /// let divergence = tracker.posterior_kl_divergence(tables, priors, node)?;
 /// assert!((divergence.unwrap() - (137.0 / 60.0 - 6.0_f64.ln())).abs() < 1.0e-14);
 /// assert_eq!(tracker.state(), State { window: 1, used: 3, accepted: 2 });
+/// tracker.tidy()?;
+/// assert_eq!(tracker.state(), State { window: 1, used: 1, accepted: 2 });
 /// # Ok(())
 /// # }
 /// ```
@@ -143,7 +147,7 @@ impl<'m> Tracker<'m> {
     /// A book with an entry for each different node and each different transition takes a list of paths in
     /// any order and with any window. A smaller one that has an entry or more refuses some of them with
     /// [`Refusal::BookFull`]. So a book is sized by paths that were recorded: they run through a large one,
-    /// which tells how many it used.
+    /// which tells how many it used. A watch that tidies gets by with less (docs/RULES.md, section 10).
     ///
     /// ```
     /// use teakpool::{Address, Refusal, Tracker, ENTRY_BYTES};
@@ -254,6 +258,40 @@ impl<'m> Tracker<'m> {
     pub fn add_path_bytes(&mut self, path: &[u8]) -> Result<(), Refusal> {
         let mut state = self.state.words();
         let answer = archive::add_path(&mut state, self.book, self.queue, path);
+        done(answer, Address::default())?;
+        self.state = State::of(state);
+        Ok(())
+    }
+
+    /// Tidies the book: drops every child entry with a count of 0 and every node whose ending and children
+    /// are all 0, closes the gaps and zeroes the rest. Later paths may use the places. The entries used
+    /// become the number kept; window, paths accepted, all counts and the queue stay. With a window of 0
+    /// no path leaves, and nothing is dropped.
+    ///
+    /// # Errors
+    /// 9 for the tracker's form.
+    ///
+    /// ```
+    /// use teakpool::{Address, Refusal, State, Tracker, ENTRY_BYTES, PLACE_BYTES};
+    ///
+    /// let (mut book, mut queue) = ([0; 5 * ENTRY_BYTES], [0; PLACE_BYTES]);
+    /// let mut tracker = Tracker::open(1, &mut book, &mut queue)?;
+    /// let path_to = |point: u32| [Address::new(1, 7), Address::new(0, point)];
+    /// tracker.add_path(&path_to(9))?;
+    /// tracker.add_path(&path_to(7))?;
+    ///
+    /// // The first path has left the window; its node 0/9 and its transition fill the book with zeros.
+    /// assert_eq!(tracker.state(), State { window: 1, used: 5, accepted: 2 });
+    /// assert_eq!(tracker.add_path(&path_to(8)), Err(Refusal::BookFull));
+    /// tracker.tidy()?;
+    /// assert_eq!(tracker.state(), State { window: 1, used: 3, accepted: 2 });
+    /// tracker.add_path(&path_to(8))?;
+    /// assert_eq!(tracker.state(), State { window: 1, used: 5, accepted: 3 });
+    /// # Ok::<(), Refusal>(())
+    /// ```
+    pub fn tidy(&mut self) -> Result<(), Refusal> {
+        let mut state = self.state.words();
+        let answer = archive::tidy(&mut state, self.book, self.queue);
         done(answer, Address::default())?;
         self.state = State::of(state);
         Ok(())

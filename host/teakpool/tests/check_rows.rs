@@ -76,6 +76,83 @@ fn the_second_add() {
 }
 
 #[test]
+fn the_second_add_tidied() {
+    let kit = Kit::up_to(7);
+    let (mut book, mut queue) = ([0xff; 8 * ENTRY_BYTES], [0xff; PLACE_BYTES]);
+    let mut tracker = Tracker::open(1, &mut book, &mut queue).unwrap();
+    SECOND.iter().for_each(|path| tracker.add_path(path).unwrap());
+    let (mut addresses, mut figures) = ([0; 16], [0.0; 2]);
+    let mut output = Output { addresses: &mut addresses, figures: &mut figures };
+    let mut read = |tracker: &Tracker| {
+        let list = tracker.all_node_kl(kit.tables(), kit.priors(), &mut output).unwrap();
+        let stats = tracker.kl_div_stats(kit.tables(), kit.priors()).unwrap();
+        let vector = tracker.prob_vector(kit.priors(), NODE, &mut output).unwrap();
+        let evidence = tracker.evidence_prob_vector(NODE, &mut output).unwrap();
+        let divergence = tracker.posterior_kl_divergence(kit.tables(), kit.priors(), NODE);
+        assert_eq!((divergence, stats.sum, stats.sequence_length), (Ok(Some(10.0)), 10.0, 1));
+        assert_eq!(vector, Some(ProbVector { places: 2, ending: 2.0 / 7.0 }));
+        (list.skipped, stats.skipped, evidence)
+    };
+    assert_eq!(read(&tracker), (1, 1, Some(ProbVector { places: 1, ending: 1.0 })));
+    let kept_queue = tracker.queue().to_vec();
+    for _ in 0..2 {
+        assert_eq!(tracker.tidy(), Ok(()));
+        assert_eq!(tracker.state(), State { window: 1, used: 1, accepted: 2 });
+        // The ending of (1,7) with its count of 1, and zeros.
+        let ending = [&NODE.bytes()[..], &[0; 12], &[1, 0, 0, 0]].concat();
+        assert_eq!((&tracker.book()[..ENTRY_BYTES], tracker.queue()), (&ending[..], &kept_queue[..]));
+        assert!(tracker.book()[ENTRY_BYTES..].iter().all(|byte| *byte == 0));
+        assert_eq!(read(&tracker), (0, 0, Some(ProbVector { places: 0, ending: 1.0 })));
+    }
+}
+
+#[test]
+fn a_tidy_makes_room_where_a_path_has_left() {
+    // Window, and the answer to a third path when the book of five entries is tidied before it.
+    for (window, used, answer) in
+        [(0, 5, Err(Refusal::BookFull)), (1, 3, Ok(())), (2, 5, Err(Refusal::BookFull))]
+    {
+        let (mut book, mut queue) = ([0; 5 * ENTRY_BYTES], [0; 2 * PLACE_BYTES]);
+        let mut tracker = Tracker::open(window, &mut book, &mut queue).unwrap();
+        [NINE, SEVEN].iter().for_each(|child| tracker.add_path(&[NODE, *child]).unwrap());
+        let third = [NODE, Address::new(0, 8)];
+        assert_eq!(tracker.add_path(&third), Err(Refusal::BookFull));
+        assert_eq!((tracker.tidy(), tracker.state()), (Ok(()), State { window, used, accepted: 2 }));
+        assert_eq!(tracker.add_path(&third), answer, "window {}", window);
+    }
+}
+
+#[test]
+fn a_tidy_forgets_a_transition_that_has_left() {
+    let kit = Kit::up_to(7);
+    let (mut book, mut queue) = ([0; 8 * ENTRY_BYTES], [0; PLACE_BYTES]);
+    let mut tracker = Tracker::open(1, &mut book, &mut queue).unwrap();
+    let read = |tracker: &Tracker| tracker.kl_div_stats(kit.tables(), kit.priors()).map(|stats| stats.sum);
+    let unseen = Err(Refusal::MissingChild(NODE));
+    tracker.add_path(&[NODE, Address::new(0, 8)]).unwrap();
+    tracker.tidy().unwrap();
+    assert_eq!(read(&tracker), unseen);
+    tracker.add_path(&[NODE]).unwrap();
+    assert_eq!(read(&tracker), unseen);
+    tracker.tidy().unwrap();
+    assert_eq!(read(&tracker), Ok(10.0));
+}
+
+#[test]
+fn a_tidy_of_a_broken_form_changes_nothing() {
+    let mut book = [0xff; 2 * ENTRY_BYTES];
+    for state in [State { window: 1_025, ..State::default() }, State { used: 1, ..State::default() }] {
+        let mut tracker = Tracker::resume(state, &mut book, &mut []);
+        assert_eq!(tracker.tidy(), Err(Refusal::Form));
+        assert_eq!(tracker.state(), state);
+    }
+    assert_eq!(book, [0xff; 2 * ENTRY_BYTES]);
+    // With the form, bytes past the used entries become zero, whoever wrote them.
+    assert_eq!(Tracker::resume(State::default(), &mut book, &mut []).tidy(), Ok(()));
+    assert_eq!(book, [0; 2 * ENTRY_BYTES]);
+}
+
+#[test]
 fn the_probabilities() {
     let kit = Kit::up_to(7);
     let (mut addresses, mut figures) = ([0; 16], [0.0; 2]);

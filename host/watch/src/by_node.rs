@@ -61,7 +61,7 @@ impl ByNode {
                 let Ok(place) = places.binary_search(&knot) else {
                     return Ok(());
                 };
-                for (node, divergence) in divergences(tracker, lent, trained.greatest_index)?.0 {
+                for (node, divergence) in divergences(tracker, lent, trained.greatest_index)? {
                     let sums = nodes.entry(node).or_insert_with(|| vec![[0.0; 2]; places.len()]);
                     sums[place][0] += divergence;
                     sums[place][1] += divergence * divergence;

@@ -2,6 +2,7 @@
 //! in them, one prior a point below the floor, a rate and a capacity that fit the paths, and a
 //! training that its priors allow.
 
+use crate::capacity::least;
 use crate::counts::Counts;
 use crate::day::{Day, Paths, Prior, Setting, TableRule, MAX_KNOTS};
 use crate::known::Known;
@@ -109,27 +110,19 @@ fn few_knots(day: &Day, mistakes: &mut Mistakes) {
     }
 }
 
-/// A given capacity holds all nodes and transitions of the day and of each sequence.
+/// A given capacity takes each sequence, in which no path leaves, and the day, whose book is tidied
+/// where it is full.
 fn enough_capacity(day: &Day, mistakes: &mut Mistakes) {
     let Some(Setting { line, value }) = day.capacity else {
         return;
     };
-    let training = day.sequences.iter().map(|sequence| entries(sequence.iter())).max().unwrap_or(0);
-    let entries = training.max(entries(added(day)));
+    let training = day.sequences.iter().map(|sequence| least(sequence.iter(), 0)).max().unwrap_or(0);
+    let of_day = least(added(day), day.window);
+    let (whose, entries) = if training > of_day { ("training", training) } else { ("day", of_day) };
     if entries > value {
-        let text = format!("a capacity of {} is too small: the paths need {} entries", value, entries);
+        let text = format!("a capacity of {} is too small: the {} needs {} entries", value, whose, entries);
         mistakes.add(line, text);
     }
-}
-
-/// Entries that a book needs for paths: nodes and transitions.
-fn entries<'a>(paths: impl Iterator<Item = &'a [Address]>) -> usize {
-    let mut listed: HashSet<(Address, Option<Address>)> = HashSet::new();
-    for steps in paths {
-        listed.extend(steps.iter().map(|step| (*step, None)));
-        listed.extend(steps.windows(2).map(|pair| (pair[0], Some(pair[1]))));
-    }
-    listed.len()
 }
 
 /// The paths of the day but for those that are left out, whatever room there is in the book.

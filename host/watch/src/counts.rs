@@ -96,6 +96,11 @@ impl<'a> Counts<'a> {
         }
     }
 
+    /// Nodes without a prior that were met.
+    pub fn without_prior(&self) -> usize {
+        self.nodes.values().filter(|node| node.is_none()).count()
+    }
+
     /// Visits of nodes with a prior in the window.
     pub fn visits(&self) -> u64 {
         self.visits

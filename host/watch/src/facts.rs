@@ -5,8 +5,8 @@ use crate::day::{Day, MAX_ENTRIES};
 use crate::others::Others;
 use crate::training::Trained;
 use crate::usual::FAR;
-use crate::watched::{LeftOut, Place, Tally, Watched};
-use crate::words::number;
+use crate::watched::{LeftOut, Place, Tally, Tidied, Watched};
+use crate::words::{at, number};
 use crate::work::EVERY;
 use teakpool::ENTRY_BYTES;
 
@@ -17,7 +17,7 @@ const FEW_SEQUENCES: u32 = 8;
 pub fn facts(day: &Day, watched: &Watched) -> Vec<String> {
     let mut facts = vec![paths(day), baseline(watched)];
     facts.extend(others(day, watched));
-    facts.extend([judged(watched), book(watched)]);
+    facts.extend([judged(watched), book(day, watched)]);
     facts
 }
 
@@ -68,29 +68,45 @@ fn judged(watched: &Watched) -> String {
 }
 
 /// How many entries of a book the added paths need.
-fn book(watched: &Watched) -> String {
+fn book(day: &Day, watched: &Watched) -> String {
     let count = |of: fn(&&Place) -> bool| watched.places.iter().filter(of).count();
-    let paths = match count(|place| !matches!(place, Place::LeftOut(_))) {
-        0 => return "book: empty, since no path is added".to_string(),
-        1 => "the path added".to_string(),
-        added => format!("the {} paths added, in any order", added),
-    };
-    let needed = match watched.used {
-        1 => format!("1 entry ({} bytes) is enough for {}", ENTRY_BYTES, paths),
-        used => {
-            let bytes = ENTRY_BYTES * used as usize;
-            format!("{} entries ({} bytes) are enough for {}, and fewer are not", used, bytes, paths)
+    let added = count(|place| !matches!(place, Place::LeftOut(_)));
+    let full = count(|place| matches!(place, Place::LeftOut(LeftOut::BookFull)));
+    let mut text = match (added, watched.tidied) {
+        (0, _) => return "book: empty, since no path is added".to_string(),
+        (1, _) => enough(watched.needed, "the path added"),
+        (added, None) => enough(watched.needed, &format!("the {} paths added, in any order", added)),
+        (added, Some(tidied)) => {
+            let enough = enough(tidied.needed, &format!("the {} paths added, in their order", added));
+            format!("{}; with tidies {}; without they need {}", times(day, tidied), enough, watched.needed)
         }
     };
-    let more = match count(|place| matches!(place, Place::LeftOut(LeftOut::BookFull))) {
-        0 => String::new(),
-        full => format!(
-            "; {} more did not fit, and no book has over {} entries",
-            number(full, "path"),
-            MAX_ENTRIES
-        ),
-    };
-    format!("book: {}{}", needed, more)
+    if full > 0 {
+        text.push_str(&format!("; {} more did not fit", number(full, "path")));
+    }
+    if full > 0 || watched.needed > MAX_ENTRIES {
+        text.push_str(&format!(", and no book has over {} entries", MAX_ENTRIES));
+    }
+    format!("book: {}", text)
+}
+
+/// So many entries are enough.
+fn enough(entries: usize, paths: &str) -> String {
+    match entries {
+        1 => format!("1 entry ({} bytes) is enough for {}", ENTRY_BYTES, paths),
+        entries => {
+            let bytes = ENTRY_BYTES * entries;
+            format!("{} entries ({} bytes) are enough for {}, and fewer are not", entries, bytes, paths)
+        }
+    }
+}
+
+/// How often the book was tidied, and when.
+fn times(day: &Day, Tidied { times, first, .. }: Tidied) -> String {
+    match times {
+        1 => format!("tidied once, after {}", at(day, first)),
+        times => format!("tidied {} times, first after {}", times, at(day, first)),
+    }
 }
 
 /// How far the training's own days go.

@@ -195,7 +195,8 @@ fn reason(day: &Day, watched: &Watched, why: Unjudged) -> String {
             day.tables.last_index()
         ),
         Unjudged::LeftOut(LeftOut::BookFull) => format!(
-            "left out, since the book is full: it holds {} nodes and transitions",
+            "left out, since the book is full{}: it holds {} nodes and transitions",
+            if day.window == 0 { "" } else { ", tidied too" },
             day.capacity.map_or(MAX_ENTRIES, |capacity| capacity.value)
         ),
         Unjudged::LeftOut(LeftOut::PathsFull) => {

@@ -6,7 +6,7 @@ use crate::page::page;
 use crate::priors::GoodDays;
 use crate::reader::{read, read_paths};
 use crate::report::report;
-use crate::watched::{Tally, Verdict};
+use crate::watched::{Tally, Verdict, Watched};
 use crate::work::watch;
 use cases::rng::Rng;
 use std::collections::BTreeMap;
@@ -75,6 +75,7 @@ fn day_lines(random: &mut Rng) -> Vec<String> {
     lines.push(format!("drift {}", random.pick(&["0", "0.5", "3", "1e300"])));
     lines.push(random.pick(&["tables gamma", "tables squares 60", "tables squares 30", "#"]).to_string());
     lines.push(random.pick(&["#", "#", "floor 0", "floor 1", "floor 2"]).to_string());
+    lines.push(random.pick(&["#", "#", "#", "#", "#", "capacity 16", "capacity 24"]).to_string());
     let mut priors: BTreeMap<&str, Vec<&str>> = BTreeMap::new();
     for node in NODES {
         let children: Vec<&str> = NODES.into_iter().filter(|_| random.chance(60)).collect();
@@ -147,8 +148,8 @@ fn counts_add_up(report: &str) {
     }
 }
 
-/// Reads a file and reports it; true where there is a report.
-fn ends(bytes: &[u8]) -> bool {
+/// Reads a file and reports it; the run, where there is a report.
+fn ends(bytes: &[u8]) -> Option<Watched> {
     if let Ok(day) = read_paths(bytes) {
         let mut good = GoodDays::default();
         good.add(&day);
@@ -176,7 +177,16 @@ fn ends(bytes: &[u8]) -> bool {
                 assert_eq!(text.contains("\n  nowhere: "), all, "{}", text);
                 let none = watched.stretches.is_empty() && watched.over_day.is_empty();
                 assert_eq!(all, none && judged == day.paths.len());
-                return true;
+                // Until a tidy all nodes that were met are listed.
+                if let (None, Some((_, last))) = (watched.tidied, watched.readings().next_back()) {
+                    assert_eq!(watched.skipped as u64, last.stats.skipped, "{}", text);
+                }
+                // A book is tidied where it is too small for all paths, and not for those of the window.
+                if let Some(capacity) = day.capacity.map(|capacity| capacity.value) {
+                    assert_eq!(watched.tidied.is_some(), watched.needed > capacity, "{}", text);
+                    assert!(watched.tidied.is_none_or(|tidied| tidied.needed <= capacity), "{}", text);
+                }
+                return Some(watched);
             }
         },
     };
@@ -185,20 +195,24 @@ fn ends(bytes: &[u8]) -> bool {
     assert!(!told.iter().any(|line| line.contains(char::is_control)), "{:?}", told);
     // What a line shows is told before the archive refuses it.
     assert!(!told.iter().any(|line| line.contains("refusal")), "{:?}", told);
-    false
+    None
 }
 
 #[test]
 fn every_file_ends_in_a_report_or_in_told_mistakes() {
-    let (mut reports, mut mistakes) = (0, 0);
+    let (mut reports, mut tidied, mut mistakes) = (0, 0, 0);
     for seed in 0..12_000 {
         let bytes = bytes(&mut Rng::new(seed));
         match std::panic::catch_unwind(|| ends(&bytes)) {
-            Ok(true) => reports += 1,
-            Ok(false) => mistakes += 1,
+            Ok(Some(watched)) => {
+                reports += 1;
+                tidied += usize::from(watched.tidied.is_some());
+            }
+            Ok(None) => mistakes += 1,
             Err(_) => panic!("seed {}: {}", seed, String::from_utf8_lossy(&bytes)),
         }
     }
-    // Enough of both, so that both are tried.
+    // Enough of all, so that they are tried.
     assert!(reports > 2_000 && mistakes > 2_000, "{} reports, {} files with mistakes", reports, mistakes);
+    assert!(tidied > 100, "{} tidied books", tidied);
 }

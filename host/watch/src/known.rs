@@ -1,8 +1,8 @@
 //! What no good day has done, by the prior and by the training. A path that does so is a finding
 //! of its own, however few there are, and is not added:
 //!
-//! - a node goes on to a child that its prior does not have. Once in the book the child would give
-//!   refusal 14 to every later reading.
+//! - a node goes on to a child that its prior does not have. As long as it were in the book, every
+//!   reading would get refusal 14.
 //! - a path ends where the prior has no ending, and no training path ends there. The divergence
 //!   leaves such endings out and falls by them, so that they would pass for calm.
 //! - a path meets no node that has a prior, and every training path does. Nothing of it is watched.

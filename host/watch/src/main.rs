@@ -4,6 +4,7 @@
 
 mod arguments;
 mod by_node;
+mod capacity;
 mod chart;
 mod checks;
 mod counts;

@@ -41,13 +41,8 @@ impl Moved {
     }
 }
 
-/// The divergences of all nodes in the book that have a prior, greatest first, and how many have
-/// none.
-pub fn divergences(
-    tracker: &Tracker,
-    lent: &Lent,
-    index: u64,
-) -> Result<(Vec<(Address, f64)>, u32), Refusal> {
+/// The divergences of all nodes in the book that have a prior, greatest first.
+pub fn divergences(tracker: &Tracker, lent: &Lent, index: u64) -> Result<Vec<(Address, f64)>, Refusal> {
     // Below the floor several nodes can have one prior; each of them has an entry.
     let room = tracker.state().used as usize;
     let (mut addresses, mut figures) = (vec![0; Address::BYTES * room], vec![0.0; room]);
@@ -55,7 +50,7 @@ pub fn divergences(
     let list = tracker.all_node_kl(lent.tables(index), lent.priors(), &mut output)?;
     let mut nodes: Vec<(Address, f64)> = output.places(list.places).collect();
     nodes.sort_by(|one, other| other.1.total_cmp(&one.1));
-    Ok((nodes, list.skipped))
+    Ok(nodes)
 }
 
 /// Where a node's paths went, now and in the training.

@@ -616,8 +616,22 @@ mod tests {
         let held =
             |entries: u32| format!("capacity {}\nsequence\npath 2/0 1/0 0/0\nday\npath 1/0 0/1", entries);
         assert!(read(held(5).as_bytes()).is_ok());
-        let text = "a capacity of 4 is too small: the paths need 5 entries".to_string();
+        let text = "a capacity of 4 is too small: the training needs 5 entries".to_string();
         assert_eq!(problem(held(4)), (1, text));
+        // Where paths leave the window the book is tidied, and two of these in a row have five entries; in
+        // a training none leaves.
+        let paths = "path 1/0 0/0\npath 1/0 0/1\npath 1/0 0/2\n";
+        let leaving = |entries: u32, window: u32, lines: &str| {
+            format!("capacity {}\nwindow {}\n{}\n{}", entries, window, lines, paths)
+        };
+        assert!(read(leaving(5, 1, "day").as_bytes()).is_ok());
+        assert_eq!(problem(leaving(4, 1, "day")).1, "a capacity of 4 is too small: the day needs 5 entries");
+        let trained = format!("sequence\n{}day", paths);
+        for (window, lines, whose) in [(0, "day", "day"), (3, "day", "day"), (1, &trained, "training")] {
+            let text = format!("a capacity of 6 is too small: the {} needs 7 entries", whose);
+            assert_eq!(problem(leaving(6, window, lines)), (1, text));
+            assert!(read(leaving(7, window, lines).as_bytes()).is_ok());
+        }
         // A path that is left out needs none: 1/0 does not go on to 0/2 by its prior, and at 0/1 the
         // second path passes the tables' end.
         let left_out = |entries: u32, path: &str| {

@@ -141,6 +141,16 @@ pub struct Tally {
     pub unread: usize,
 }
 
+/// The tidies of a book that was full, and dropped entries of paths that had left the window.
+#[derive(Debug, Clone, Copy, PartialEq, Eq)]
+pub struct Tidied {
+    pub times: usize,
+    /// The index of the path before the first of them.
+    pub first: usize,
+    /// Entries that the added paths need in their order and with the day's window, with tidies.
+    pub needed: usize,
+}
+
 /// All that a report needs.
 pub struct Watched {
     pub trained: Option<Trained>,
@@ -157,10 +167,11 @@ pub struct Watched {
     /// The nodes with the greatest divergences after the last path, and how many more there are.
     pub nodes: Vec<Moved>,
     pub more_nodes: usize,
-    /// Nodes without a prior.
-    pub skipped: u32,
-    /// Entries that the added paths use in the book: the least capacity that takes them.
-    pub used: u32,
+    /// Nodes without a prior that the added paths have met.
+    pub skipped: usize,
+    /// Entries that the added paths need in a book that is not tidied.
+    pub needed: usize,
+    pub tidied: Option<Tidied>,
 }
 
 impl Watched {

@@ -2,6 +2,7 @@
 //! statistics after each and holds them against the baseline, and notes where they drift.
 
 use crate::by_node::ByNode;
+use crate::capacity::least;
 use crate::counts::Counts;
 use crate::day::{Day, MAX_ENTRIES};
 use crate::known::{self, Known};
@@ -14,7 +15,7 @@ use crate::seldom::Rates;
 use crate::stretches::Stretches;
 use crate::training::{train, Trained};
 use crate::usual::{UsualAt, Why};
-use crate::watched::{Judged, LeftOut, Place, Reading, Watched};
+use crate::watched::{Judged, LeftOut, Place, Reading, Tidied, Watched};
 use std::collections::BTreeMap;
 use teakpool::{Address, Refusal, Tracker, ENTRY_BYTES, PLACE_BYTES};
 
@@ -54,6 +55,7 @@ pub fn watch(day: &Day) -> Result<Watched, Problem> {
         rates: Rates::over(rate_window(day)),
         added: 0,
         unread: None,
+        tidied: None,
     };
     let mut places = Vec::with_capacity(day.paths.len());
     let mut steps = Steps::new("the day's paths", day.paths.len());
@@ -67,11 +69,12 @@ pub fn watch(day: &Day) -> Result<Watched, Problem> {
             [index + 1, places.len() - 1].into_iter().for_each(|left_out| run.stretches.unjudged(left_out));
         }
     }
-    let (nodes, more_nodes, skipped) = run.nodes().map_err(told_at(day.paths.len() - 1))?;
+    let (nodes, more_nodes) = run.nodes().map_err(told_at(day.paths.len() - 1))?;
     let new_endings = [run.rates.new_endings(), run.known.new_endings()];
     let over_day = run.rates.over_day(&run.known, day.drift);
     let over_day_drifts = over_day.iter().any(|often| often.deviations > day.drift);
-    let used = run.tracker.state().used;
+    let skipped = run.counts.without_prior();
+    let (needed, tidied) = run.needed(&places);
     let (stretches, found) = (run.stretches.done(), run.found.into_values().collect());
     Ok(Watched {
         trained,
@@ -84,7 +87,8 @@ pub fn watch(day: &Day) -> Result<Watched, Problem> {
         nodes,
         more_nodes,
         skipped,
-        used,
+        needed,
+        tidied,
     })
 }
 
@@ -111,6 +115,8 @@ struct Run<'a> {
     added: usize,
     /// The last path that is added, if it is not read, and how many there are since a reading.
     unread: Option<usize>,
+    /// How often tidies have dropped entries, and the index of the path before the first of them.
+    tidied: Option<(usize, usize)>,
 }
 
 impl Run<'_> {
@@ -141,11 +147,27 @@ impl Run<'_> {
         if let Some(node) = self.counts.past_end(index, self.lent.last_index()) {
             return Ok(Some(LeftOut::PastTables(node)));
         }
-        match add(&mut self.tracker, steps) {
+        match self.add(index) {
             Err(Refusal::BookFull) => Ok(Some(LeftOut::BookFull)),
             Err(Refusal::PathsFull) => Ok(Some(LeftOut::PathsFull)),
             added => added.map(|()| None),
         }
+    }
+
+    /// Adds the path; a full book is tidied, and where that drops entries the path is added then.
+    fn add(&mut self, index: usize) -> Result<(), Refusal> {
+        let steps = self.day.paths.steps(index);
+        let answer = add(&mut self.tracker, steps);
+        if answer != Err(Refusal::BookFull) {
+            return answer;
+        }
+        let full = self.tracker.state().used;
+        self.tracker.tidy()?;
+        if self.tracker.state().used == full {
+            return answer;
+        }
+        self.tidied.get_or_insert((0, index - 1)).0 += 1;
+        add(&mut self.tracker, steps)
     }
 
     /// Reads the statistics after a path and judges them.
@@ -183,7 +205,7 @@ impl Run<'_> {
 
     /// The node to look at.
     fn most_moved(&self) -> Result<Option<Moved>, Refusal> {
-        let (nodes, _) = moved::divergences(&self.tracker, &self.lent, self.counts.greatest())?;
+        let nodes = moved::divergences(&self.tracker, &self.lent, self.counts.greatest())?;
         let most = match self.by_node() {
             Some(by_node) => by_node.most_moved(&nodes, self.usual.length),
             None => nodes.first().copied(),
@@ -202,15 +224,27 @@ impl Run<'_> {
         Ok(Moved { node, divergence, usual, shares })
     }
 
-    /// The nodes with the greatest divergences, how many more there are, and how many have no
-    /// prior.
-    fn nodes(&mut self) -> Result<(Vec<Moved>, usize, u32), Refusal> {
+    /// The nodes with the greatest divergences, and how many more there are.
+    fn nodes(&mut self) -> Result<(Vec<Moved>, usize), Refusal> {
         let greatest = self.counts.greatest();
         self.lent.reach(greatest);
-        let (nodes, skipped) = moved::divergences(&self.tracker, &self.lent, greatest)?;
+        let nodes = moved::divergences(&self.tracker, &self.lent, greatest)?;
         let shown = nodes.iter().take(NODES).map(|node| self.moved(*node));
         let more = nodes.len().saturating_sub(NODES);
-        Ok((shown.collect::<Result<_, Refusal>>()?, more, skipped))
+        Ok((shown.collect::<Result<_, Refusal>>()?, more))
+    }
+
+    /// Entries that the added paths need without tidies, and the tidies. What is used at the end tells
+    /// the first only where there were none.
+    fn needed(&self, places: &[Place]) -> (usize, Option<Tidied>) {
+        let Some((times, first)) = self.tidied else {
+            return (self.tracker.state().used as usize, None);
+        };
+        let added = || {
+            let indexes = (0..places.len()).filter(|index| !matches!(places[*index], Place::LeftOut(_)));
+            indexes.map(|index| self.day.paths.steps(index))
+        };
+        (least(added(), 0), Some(Tidied { times, first, needed: least(added(), self.day.window) }))
     }
 }
 
@@ -222,8 +256,8 @@ mod tests {
     use crate::mistakes::Problem;
     use crate::reader::read;
     use crate::report::report;
-    use crate::watched::{LeftOut, Place, Reading, Tally, Verdict, Watched};
-    use teakpool::{Address, Tracker, ENTRY_BYTES, PLACE_BYTES};
+    use crate::watched::{Judged, LeftOut, Place, Reading, Tally, Tidied, Verdict, Watched};
+    use teakpool::{Address, KLDivergenceStats, Tracker, ENTRY_BYTES, PLACE_BYTES};
 
     const KIT: &str = "tables squares 7\nprior 1/7 1 0/7 2 0/9 3\n";
 
@@ -316,7 +350,7 @@ mod tests {
         }
         let mistakes =
             read(format!("capacity 4\n{}", day).as_bytes()).expect_err("a capacity of 4 is too small");
-        assert_eq!(mistakes.lines(), ["line 1: a capacity of 4 is too small: the paths need 5 entries"]);
+        assert_eq!(mistakes.lines(), ["line 1: a capacity of 4 is too small: the day needs 5 entries"]);
         // What is left out is not in the book.
         let left_out = "prior 1/7 1 0/7 2\nday\npath 1/7 0/8\n";
         tells(left_out, "empty, since no path is added");
@@ -329,6 +363,66 @@ mod tests {
         told(129, "");
         told(130, "; 1 path more did not fit, and no book has over 16384 entries");
         told(131, "; 2 paths more did not fit, and no book has over 16384 entries");
+    }
+
+    #[test]
+    fn a_full_book_is_tidied_where_paths_have_left_the_window() {
+        // The window and one path more need 16383 entries. Where it is longer nothing has left it.
+        let day = |window: u32| format!("window {}\nday\n{}path 0/0 0/1\n", window, many_nodes(131));
+        assert_eq!(left_out(&watched(&day(128))), []);
+        let tidied = Tidied { times: 3, first: 128, needed: 16_383 };
+        assert_eq!(watched(&day(128)).tidied, Some(tidied));
+        let told =
+            "book: tidied 3 times, first after path 129 (line 131); with tidies 16383 entries (393192 \
+                    bytes) are enough for the 132 paths added, in their order, and fewer are not; without \
+                    they need 16637, and no book has over 16384 entries";
+        assert_eq!(lines(&day(128), "book: "), [told]);
+        let full = watched(&day(129));
+        assert_eq!(left_out(&full), [(129, LeftOut::BookFull), (130, LeftOut::BookFull)]);
+        assert_eq!(full.tidied, None);
+        // An entry is dropped, and there is no room yet.
+        let day = format!("window 129\nday\npath 9/9\n{}", many_nodes(130));
+        assert_eq!(left_out(&watched(&day)), [(130, LeftOut::BookFull)]);
+        let told =
+            "book: tidied once, after path 130 (line 132); with tidies 16384 entries (393216 bytes) are \
+                    enough for the 130 paths added, in their order, and fewer are not; without they need \
+                    16384; 1 path more did not fit, and no book has over 16384 entries";
+        assert_eq!(lines(&day, "book: "), [told]);
+        let told =
+            "not judged at path 131: left out, since the book is full, tidied too: it holds 16384 nodes \
+                    and transitions";
+        assert_eq!(lines(&day, "left out, since"), [told]);
+    }
+
+    #[test]
+    fn a_small_book_that_is_tidied_reads_what_a_large_one_reads() {
+        // By squares every figure is a whole number, so that nothing differs by rounding.
+        let head = "drift 1\ntables squares 40\nprior 2/0 5 1/0 5\nprior 1/0 1 0/7 2 0/8 1 0/9 3\n";
+        let sequence = |child: &str| format!("sequence\npath 1/0 {}\npath 1/0 0/9\npath 1/0\n", child);
+        let training = [sequence("0/7"), sequence("0/9")].concat();
+        let path = |index: usize| match index {
+            0 => "path 2/0 1/0\n".to_string(),
+            index => format!("path 1/0 0/{}\n", 7 + index % 3) + ["", "path 1/0\n"][index % 2],
+        };
+        let paths: String = (0..20).map(path).collect();
+        for (window, capacity) in [(1, 5), (2, 5), (3, 7)] {
+            let text = format!("window {}\n{}{}day\n{}", window, head, training, paths);
+            let small = format!("capacity {}\n{}", capacity, text);
+            let [tidied, large] = [&small, &text].map(|text| watched(text));
+            assert_eq!((tidied.tidied.map(|tidied| tidied.needed), large.tidied), (Some(capacity), None));
+            let read = |watched: &Watched| -> Vec<(KLDivergenceStats, Judged)> {
+                let readings = watched.readings().map(|(_, reading)| reading);
+                readings
+                    .map(|reading| (KLDivergenceStats { skipped: 0, ..reading.stats }, reading.judged))
+                    .collect()
+            };
+            assert_eq!((tidied.places.len(), read(&tidied)), (read(&large).len(), read(&large)));
+            assert_eq!((tidied.verdict(), tidied.skipped), (large.verdict(), large.skipped));
+            assert_eq!((tidied.needed, large.needed), (9, 9));
+            // 2/0 has left the window long ago.
+            let rows = |text: &str| lines(text, "nothing seen in the window").len();
+            assert_eq!((rows(&small), rows(&text)), (0, 1));
+        }
     }
 
     #[test]

@@ -214,6 +214,15 @@ fn what_is_not_judged_and_what_was_never_seen_stand_in_all_three() {
 }
 
 #[test]
+fn a_tidied_book_stands_in_report_and_page() {
+    let day = "window 1\ncapacity 2\nday\npath 1/7\npath 0/9\npath 0/8\n";
+    let Run { report, page, figures: cells, .. } = run("tidied", day);
+    let book = report.lines().find(|line| line.starts_with("  book: tidied once, after path 2 (line 5); "));
+    assert!(text(&page).contains(book.expect("the book is tidied").trim()));
+    assert_eq!(figures(&cells).len(), 3);
+}
+
+#[test]
 fn a_long_day_is_drawn_by_the_greatest_of_its_readings() {
     // 5,000 paths that go by the prior but for one run of 40.
     let path = |index: usize| match index {

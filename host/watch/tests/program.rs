@@ -130,6 +130,31 @@ fn a_floor_finds_nodes_by_their_points() {
     assert_eq!(told("twice", twice.as_bytes()), (Some(1), vec![problem.to_string()]));
 }
 
+/// Two paths in a row have four entries, all of them five.
+#[test]
+fn a_capacity_is_tidied_or_too_small() {
+    let day = |capacity: u32, window: u32| {
+        let paths = "path 1/7 0/9\npath 1/7 0/9\npath 0/9 1/7\npath 0/9 0/9\n";
+        format!("capacity {}\nwindow {}\nday\n{}", capacity, window, paths)
+    };
+    let (status, report, _) = watch(&[&file("tidied", day(4, 1).as_bytes())]);
+    assert_eq!(status, Some(4));
+    let line =
+        "\n  book: tidied once, after path 3 (line 6); with tidies 4 entries (96 bytes) are enough for \
+                the 4 paths added, in their order, and fewer are not; without they need 5\n";
+    assert!(report.contains(line), "{}", report);
+    let (_, report, _) = watch(&[&file("not_tidied", day(5, 1).as_bytes())]);
+    let line =
+        "\n  book: 5 entries (120 bytes) are enough for the 4 paths added, in any order, and fewer are \
+                not\n";
+    assert!(report.contains(line), "{}", report);
+    for (capacity, window, needed) in [(3, 1, 4), (4, 0, 5)] {
+        let problem =
+            format!("line 1: a capacity of {} is too small: the day needs {} entries", capacity, needed);
+        assert_eq!(told("too_small", day(capacity, window).as_bytes()), (Some(1), vec![problem]));
+    }
+}
+
 #[test]
 fn a_missing_file_and_wrong_arguments() {
     let (status, _, errors) = watch(&["none/none"]);

@@ -3,7 +3,7 @@ use mathlib.Core.Path.{ap, _∙_}
 use Rattle.book.specs.declared.trackers.Tracker.{Tracker}
 use Rattle.book.specs.Calls.{BookAnswer, addAnswer}
 use Rattle.exports.specs.Outputs.{trackerOf}
-use Rattle.exports.proofs.AnswerLaws.{add-left}
+use Rattle.exports.proofs.AnswerLaws.{change-left}
 use borrow.Author.Needs.{needs}
 use Rattle.exports.proofs.trackers.teakpool_add_path.Statement.{statement}
 use Rattle.exports.proofs.trackers.teakpool_add_path.Tie as tie
@@ -14,8 +14,8 @@ tracker-of-requires c κs = search needs
 add-path-requires : tie.Need-add-path-requires
 add-path-requires c κs = search needs
 
-tell-added-requires : tie.Need-tell-added-requires
-tell-added-requires c κs = search needs
+tell-changed-requires : tie.Need-tell-changed-requires
+tell-changed-requires c κs = search needs
 
 same-length : tie.Need-same-length
 same-length c = search needs
@@ -36,13 +36,13 @@ returns c =
     let said = add .add-path .ensures in
     let result = add .add-path .result in
     let answer = said ∙ ap (λ (t : Tracker). addAnswer t book queue path) t in (
-      c .tell-added .ensures .0 ∙ ap (λ (a : BookAnswer). a .number) answer,
+      c .tell-changed .ensures .0 ∙ ap (λ (a : BookAnswer). a .number) answer,
       (
         ap (λ (a : BookAnswer). a .book) answer,
         (
           ap (λ (a : BookAnswer). a .queue) answer,
-          c .tell-added .ensures .1
-              ∙ add-left result (addAnswer (trackerOf state) book queue path) state (ap (λ (a : BookAnswer). a .number) answer) (ap (λ (a : BookAnswer). a .state) answer),
+          c .tell-changed .ensures .1
+              ∙ change-left result (addAnswer (trackerOf state) book queue path) state (ap (λ (a : BookAnswer). a .number) answer) (ap (λ (a : BookAnswer). a .state) answer),
         ),
       ),
     )
@@ -53,7 +53,7 @@ teakpool-add-path-spec =
     (tie.spec
     tracker-of-requires
     add-path-requires
-    tell-added-requires
+    tell-changed-requires
     same-length
     same-length-2
     returns)

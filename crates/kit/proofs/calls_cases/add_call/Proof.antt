@@ -38,26 +38,8 @@ slice-aggregate-add-path-2 c = simp length-take (omega arith)
 add-path-requires : tie.Need-add-path-requires
 add-path-requires c κs = search needs
 
-enum-known-r : tie.Need-enum-known-r
-enum-known-r c = search needs
-
-with-state-requires : tie.Need-with-state-requires
-with-state-requires c κs = search needs
-
-number-requires : tie.Need-number-requires
-number-requires c κs = search needs
-
-compared-requires : tie.Need-compared-requires
-compared-requires c κs = search needs
-
-enum-known-after : tie.Need-enum-known-after
-enum-known-after c = search needs
-
-with-state-requires-2 : tie.Need-with-state-requires-2
-with-state-requires-2 c κs = search needs
-
-compared-requires-2 : tie.Need-compared-requires-2
-compared-requires-2 c κs = search needs
+changed-requires : tie.Need-changed-requires
+changed-requires c κs = search needs
 
 same-length : tie.Need-same-length
 same-length c = search needs
@@ -67,15 +49,6 @@ same-length-2 c = search needs
 
 returns-3 : tie.Need-returns-3
 returns-3 c = search needs
-
-same-length-3 : tie.Need-same-length-3
-same-length-3 c = search needs
-
-same-length-4 : tie.Need-same-length-4
-same-length-4 c = search needs
-
-returns-4 : tie.Need-returns-4
-returns-4 c = search needs
 
 pub add-call-spec : {M : Type 1} → statement M
 add-call-spec =
@@ -92,16 +65,7 @@ add-call-spec =
     slice-relend-prefix-add-path-2
     slice-aggregate-add-path-2
     add-path-requires
-    enum-known-r
-    with-state-requires
-    number-requires
-    compared-requires
-    enum-known-after
-    with-state-requires-2
-    compared-requires-2
+    changed-requires
     same-length
     same-length-2
-    returns-3
-    same-length-3
-    same-length-4
-    returns-4)
+    returns-3)

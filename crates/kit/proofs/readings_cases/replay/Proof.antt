@@ -7,10 +7,10 @@ use Rattle.kit.proofs.readings_cases.replay.Statement.{statement}
 use Rattle.kit.proofs.readings_cases.replay.Tie as tie
 
 abbrev Inv-loop : tie.InvT-loop
-Inv-loop tape book₀ queue₀ tally₀ n at₀ i₀ book queue tally at i = (length book ≡ length book₀) × (length queue ≡ length queue₀)
+Inv-loop tape magic book₀ queue₀ tally₀ n at₀ i₀ book queue tally at i = (length book ≡ length book₀) × (length queue ≡ length queue₀)
 
 abbrev μ-loop : tie.MeasureT-loop
-μ-loop tape book₀ queue₀ tally₀ n at₀ i₀ book queue tally at i = n - i
+μ-loop tape magic book₀ queue₀ tally₀ n at₀ i₀ book queue tally at i = n - i
 
 new-requires : tie.Need-new-requires Inv-loop μ-loop
 new-requires c κs = search needs

@@ -4,7 +4,7 @@ use Rattle.book.specs.declared.trackers.Tracker.{Tracker}
 use Rattle.book.specs.Form.{inForm}
 use Rattle.book.specs.Calls.{BookAnswer, addAnswer}
 use Rattle.exports.specs.Outputs.{trackerOf}
-use Rattle.exports.proofs.AnswerLaws.{add-left}
+use Rattle.exports.proofs.AnswerLaws.{change-left}
 use borrow.Author.Needs.{needs}
 use Rattle.pace.proofs.adds.pace_add_formed.Statement.{statement}
 use Rattle.pace.proofs.adds.pace_add_formed.Tie as tie
@@ -18,8 +18,8 @@ add-formed-requires c κs =
     let start = made .before .before .before .before .before in
     ap (λ (t : Tracker). inForm t (start .args .book .now) (start .args .queue .now)) (made .tracker-of .ensures) ∙ start .pre
 
-tell-added-requires : tie.Need-tell-added-requires
-tell-added-requires c κs = search needs
+tell-changed-requires : tie.Need-tell-changed-requires
+tell-changed-requires c κs = search needs
 
 same-length : tie.Need-same-length
 same-length c = search needs
@@ -40,13 +40,13 @@ returns c =
     let said = add .add-formed .ensures in
     let result = add .add-formed .result in
     let answer = said ∙ ap (λ (t : Tracker). addAnswer t book queue path) t in (
-      c .tell-added .ensures .0 ∙ ap (λ (a : BookAnswer). a .number) answer,
+      c .tell-changed .ensures .0 ∙ ap (λ (a : BookAnswer). a .number) answer,
       (
         ap (λ (a : BookAnswer). a .book) answer,
         (
           ap (λ (a : BookAnswer). a .queue) answer,
-          c .tell-added .ensures .1
-              ∙ add-left result (addAnswer (trackerOf state) book queue path) state (ap (λ (a : BookAnswer). a .number) answer) (ap (λ (a : BookAnswer). a .state) answer),
+          c .tell-changed .ensures .1
+              ∙ change-left result (addAnswer (trackerOf state) book queue path) state (ap (λ (a : BookAnswer). a .number) answer) (ap (λ (a : BookAnswer). a .state) answer),
         ),
       ),
     )
@@ -57,7 +57,7 @@ pace-add-formed-spec =
     (tie.spec
     tracker-of-requires
     add-formed-requires
-    tell-added-requires
+    tell-changed-requires
     same-length
     same-length-2
     returns)
