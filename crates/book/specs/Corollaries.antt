@@ -84,7 +84,7 @@ pub record Told (m : Machine) (W : ℕ) (H L : List Steps) : Type 0 where
   pub used-least : m .state .used ≡ least L
   -- after p accepted paths of s steps in all at most 2s - p entries are used
   pub used-le : m .state .used + length H ≤ 2 * total length H
-  -- an add of a whole path, up to the last that is accepted at all, gets 12 exactly when L with the path needs more entries than the book has, and else is taken
+  -- while fewer than 16,777,216 paths are accepted, an add of a whole path gets 12 exactly when L with the path needs more entries than the book has, and else is taken
   pub twelve : (p : Steps) → Whole p → Ranks p → length H < maxAccepted → addNumber (m .state) (m .book) (m .queue) (stepBytes p) ≡ cond (leb (least (L ++ p ∷ [])) (capacity (m .book))) 0 12
   -- a tidy right after a tidy changes nothing, and with a window of 0 none does
   pub tidy-again : bookStep (bookStep m tidy .1) tidy .1 ≡ bookStep m tidy .1

@@ -1,5 +1,5 @@
-// Opening a tracker, adding a path and tidying its book. The tracker's three numbers stand in a lent array: window, entries used, paths accepted. A
-// refused call leaves all that is lent as it was.
+// Opening a tracker, adding a path and tidying its book. The tracker's three numbers stand in a lent array: window, entries used,
+// paths accepted. A refused call leaves all that is lent as it was.
 ghost use mathlib.Core.Path.{_≡_};
 ghost use Rattle.book.specs.Calls.{openAnswer, addAnswer};
 ghost use Rattle.book.specs.Tidy.{tidyAnswer};

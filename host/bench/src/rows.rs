@@ -9,7 +9,10 @@ use crate::sides::{filled, goko_address, goko_path, goko_priors, ENTRIES, MOST_E
 use oracle::{Goko, NodeAddress, Trace};
 use recount::same_figures;
 use std::hint::black_box;
-use teakpool::{path_bytes, place_bytes, Address, Baseline, Output, Sequences, Tables, Tracker, KNOT_VALUES};
+use teakpool::{
+    path_bytes, place_bytes, Address, Baseline, Output, Sequences, State, Tables, Tracker, ENTRY_BYTES,
+    KNOT_VALUES,
+};
 
 /// Calls of a round: adds, readings of one node, readings of all nodes.
 const ADDS: usize = 4_000;
@@ -47,6 +50,15 @@ pub fn row(name: &str, rounds: usize, mut round: impl FnMut() -> (f64, f64)) {
     );
 }
 
+/// A printed row of a call that goko has not; `round` gives the archive's microseconds.
+fn alone(name: &str, rounds: usize, mut round: impl FnMut() -> f64) {
+    round();
+    let mut times: Vec<f64> = (0..rounds).map(|_| round()).collect();
+    times.sort_by(f64::total_cmp);
+    let (least, greatest) = (times[0], times[times.len() - 1]);
+    println!("| {} | {:.2} | | | {:.2} to {:.2} µs |", name, median(times), least, greatest);
+}
+
 /// All rows.
 pub fn print(rounds: usize) {
     let mut load = Load::new(1, four_scales);
@@ -61,6 +73,7 @@ pub fn print(rounds: usize) {
     one_child(&mut load, &theirs, rounds);
     all_nodes(&load, &ours, &theirs, rounds);
     trainings(&mut load, rounds.div_ceil(3));
+    tidies(&mut load, rounds);
 }
 
 /// A round of adds on both sides.
@@ -87,6 +100,34 @@ fn formed_adds(name: &str, capacity: usize, load: &mut Load, rounds: usize) {
     row(name, rounds, || adds(load, |path| ours.add_path(path), &mut theirs));
     let (used, book) = ours.book();
     agree::counts(used, book, &theirs);
+}
+
+/// Tidies of the full book: as its paths left it, and with all its counts above 0. What they leave must be
+/// the recount's.
+fn tidies(load: &mut Load, rounds: usize) {
+    let (mut memory, state, _) = filled(load, MOST_ENTRIES);
+    let as_left = memory.book.clone();
+    let mut all_counted = as_left.clone();
+    let mut zeros = 0;
+    for entry in all_counted.chunks_mut(ENTRY_BYTES).take(ENTRIES).filter(|entry| entry[20..] == [0; 4]) {
+        entry[20] = 1;
+        zeros += 1;
+    }
+    assert!(ENTRIES.abs_diff(2 * zeros) < ENTRIES / 10, "about half of the entries are 0");
+    let State { window, used, accepted } = state;
+    for (name, full) in [("tidy, half of the entries 0", &as_left), ("tidy, none of them 0", &all_counted)] {
+        let mut known = full.clone();
+        let lent = recount::State { window, used, accepted };
+        let kept = recount::memory::tidy(lent, &mut known, &memory.queue).expect("it is carried out").used;
+        let mut tidy = || {
+            memory.book.copy_from_slice(full);
+            let mut ours = Tracker::resume(state, &mut memory.book, &mut memory.queue);
+            let time = timed(1, || ours.tidy().expect("it is carried out"));
+            assert_eq!((ours.state().used, ours.book()), (kept, &known[..]), "both leave the same");
+            time
+        };
+        alone(name, rounds, || (0..LISTS).map(|_| tidy()).sum::<f64>() / LISTS as f64);
+    }
 }
 
 /// The readings of one node.
@@ -189,7 +230,7 @@ fn trainings(load: &mut Load, rounds: usize) {
     let given: Vec<Vec<Vec<NodeAddress>>> = given.chunks(n).map(<[_]>::to_vec).collect();
     let goko_priors = goko_priors(load);
     oracle::lend_tables(&load.tables.g, &load.tables.d);
-    let mut book = vec![0; teakpool::ENTRY_BYTES * ENTRIES];
+    let mut book = vec![0; ENTRY_BYTES * ENTRIES];
     let (mut knots, mut values) = (vec![0; 32], vec![0.0; 32 * KNOT_VALUES]);
     for (name, rate) in [("train, a path, a knot every 64", 64), ("train, a path, one knot a sequence", n)] {
         row(name, rounds, || {

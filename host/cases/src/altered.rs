@@ -1,10 +1,11 @@
 //! Single adds on memory that others wrote: books in form whose counts fit no queue, queues
-//! whose paths the book does not know, and every way in which the form can break.
+//! whose paths the book does not know, and every way in which the form can break. The same memory is
+//! there to be tidied.
 
 use crate::paths::{lent_path, path, universe};
 use crate::rng::Rng;
 use recount::limits::{ENTRY_BYTES, MAX_ACCEPTED, MAX_COUNT, MAX_WINDOW, PLACE_BYTES};
-use recount::{path_bytes, Address, Memory, State};
+use recount::{entry_bytes, path_bytes, Address, Memory, State};
 
 /// An add with all that it is lent.
 #[derive(Debug, Clone)]
@@ -56,10 +57,10 @@ fn entries(rng: &mut Rng, addresses: &[Address]) -> Vec<u8> {
     let mut bytes = Vec::new();
     for node in &sorted {
         if rng.chance(75) {
-            push_entry(&mut bytes, *node, 0, Address::default(), count(rng));
+            bytes.extend(entry_bytes(*node, None, count(rng)));
             for child in &sorted {
                 if rng.chance(45) {
-                    push_entry(&mut bytes, *node, 1, *child, count(rng));
+                    bytes.extend(entry_bytes(*node, Some(*child), count(rng)));
                 }
             }
         }
@@ -69,13 +70,6 @@ fn entries(rng: &mut Rng, addresses: &[Address]) -> Vec<u8> {
 
 fn count(rng: &mut Rng) -> u32 {
     rng.pick(&[0, 0, 1, 1, 2, 3, MAX_COUNT - 1, MAX_COUNT])
-}
-
-fn push_entry(bytes: &mut Vec<u8>, node: Address, kind: u32, child: Address, count: u32) {
-    bytes.extend(node.bytes());
-    bytes.extend(kind.to_le_bytes());
-    bytes.extend(child.bytes());
-    bytes.extend(count.to_le_bytes());
 }
 
 fn accepted(rng: &mut Rng, window: u32) -> u32 {

@@ -1,7 +1,8 @@
 //! Every short list over two addresses: all paths of up to `steps` steps, all lists of `adds`
 //! of them, for given windows and capacities, with all readings at the end. With a floor the two
 //! addresses have one point. Every order of every short list over two or three, in every book from one entry
-//! to one more than it needs. And every look-up in every chain over six addresses.
+//! to one more than it needs. Every short list with tidies at every choice of places. And every look-up in
+//! every chain over six addresses.
 
 use crate::calls::{Call, CallList, Places, PriorBytes, Tables};
 use crate::lookups::PriorsCase;
@@ -105,6 +106,28 @@ pub fn each_order<E>(mut each: impl FnMut(&Ordered) -> Result<(), E>) -> Result<
                 let mut calls = opening(window, capacity);
                 calls.extend(order.iter().map(|path| Call::Add { path: path_bytes(path) }));
                 each(&Ordered { list: CallList { fill: 0xa5, calls }, capacity, least })?;
+            }
+        }
+    }
+    Ok(tried)
+}
+
+/// Calls `each` with every list of one to three paths of up to two steps over two addresses, and with a tidy
+/// after every choice of them: for each window up to 3, and in each book from one entry to one more than the
+/// list needs without tidies. Gives how many there are. Ends at the first that `each` fails on.
+pub fn each_tidied<E>(mut each: impl FnMut(&CallList) -> Result<(), E>) -> Result<u64, E> {
+    let paths = paths(&ADDRESSES, 2);
+    let mut tried = 0;
+    for list in (1..=3).flat_map(|adds| lists(&paths, adds)).flat_map(|list| orders(&list)) {
+        for places in 1..1_u32 << list.len() {
+            for (window, capacity) in windows_and_capacities(least(&list) + 1) {
+                tried += 1;
+                let mut calls = opening(window, capacity);
+                for (place, path) in list.iter().enumerate() {
+                    calls.push(Call::Add { path: path_bytes(path) });
+                    calls.extend((places >> place & 1 == 1).then_some(Call::Tidy));
+                }
+                each(&CallList { fill: 0xa5, calls })?;
             }
         }
     }

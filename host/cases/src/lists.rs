@@ -1,5 +1,6 @@
 //! Random call lists. Each is played on the recount while it is made, so that books, tables
-//! and outputs can be a little too small, just large enough, or larger.
+//! and outputs can be a little too small, just large enough, or larger. Where tidies come between the
+//! other calls, most books are large enough with them alone.
 
 use crate::calls::{Call, CallList, Places, PriorBytes, Tables};
 use crate::paths::{below, floor, lent_path, universe_around, FOREIGN};
@@ -11,6 +12,9 @@ use recount::{check_priors, Address, Recount, Tracker};
 
 /// Counts that a table leaves room for at most.
 const MOST_AHEAD: usize = 32;
+
+/// After a call where tidies come, the chance of one in a hundred.
+const TIDY_HERE: usize = 20;
 
 /// How large a list may become.
 #[derive(Debug, Clone)]
@@ -35,6 +39,8 @@ pub struct Shape {
     pub short_books: bool,
     /// Of a hundred lists, how many have a floor with scales below it.
     pub floors: usize,
+    /// Of a hundred adds, how many are followed by a tidy before the next one.
+    pub tidies: usize,
 }
 
 impl Shape {
@@ -51,7 +57,13 @@ impl Shape {
             counts: vec![1, 3, 10],
             short_books: true,
             floors: 33,
+            tidies: 0,
         }
+    }
+
+    /// Lists with tidies, and windows that are soon passed.
+    pub fn tidied() -> Shape {
+        Shape { windows: vec![0, 1, 1, 2, 3], tidies: 40, ..Shape::small() }
     }
 
     /// Lists that go past a long window.
@@ -67,6 +79,7 @@ impl Shape {
             counts: vec![10],
             short_books: false,
             floors: 50,
+            tidies: 0,
         }
     }
 }
@@ -76,7 +89,8 @@ pub fn call_list(rng: &mut Rng, shape: &Shape) -> CallList {
     let count = rng.between(1, shape.addresses);
     let floor = if shape.floors == 0 { i32::MIN } else { floor(rng, shape.floors) };
     let universe = universe_around(rng, count, floor);
-    let mut maker = Maker { universe, floor, player: Player::new(History::default()), calls: Vec::new() };
+    let player = Player::new(History::default());
+    let mut maker = Maker { universe, floor, player, calls: Vec::new(), tidying: false };
     for _ in 0..rng.between(1, shape.openings) {
         maker.stretch(rng, shape);
     }
@@ -88,12 +102,24 @@ struct Maker {
     floor: i32,
     player: Player<History>,
     calls: Vec<Call>,
+    /// Whether tidies come between the calls now.
+    tidying: bool,
 }
 
 impl Maker {
-    fn call(&mut self, call: Call) {
-        self.player.play(&call);
+    fn play(&mut self, call: Call) -> Answer {
+        let answer = self.player.play(&call);
         self.calls.push(call);
+        answer
+    }
+
+    /// A call, and now and then a tidy after it.
+    fn call(&mut self, rng: &mut Rng, call: Call) -> Answer {
+        let answer = self.play(call);
+        if self.tidying && rng.chance(TIDY_HERE) {
+            self.play(Call::Tidy);
+        }
+        answer
     }
 
     /// An opening and what follows it, up to the next.
@@ -102,27 +128,49 @@ impl Maker {
         let paths: Vec<Vec<u8>> = (0..rng.between(shape.adds.0, shape.adds.1))
             .map(|_| lent_path(rng, &self.universe, shape.steps, shape.bad_paths))
             .collect();
-        let book_len = ENTRY_BYTES * capacity(rng, &paths, shape.short_books);
+        let tidied: Vec<bool> = match shape.tidies {
+            0 => vec![false; paths.len()],
+            percent => paths.iter().map(|_| rng.chance(percent)).collect(),
+        };
+        let with_tidies = tidied.contains(&true) && rng.chance(75);
+        let needed = needed(window, &paths, |path| with_tidies && tidied[path]);
+        let book_len = ENTRY_BYTES * capacity(rng, needed, shape.short_books);
         let queue_len = PLACE_BYTES * window as usize + rng.pick(&[0, 0, 0, 1, 515, 516]);
         if rng.chance(15) {
-            self.call(refused_opening(rng, window, book_len));
+            let opening = refused_opening(rng, window, book_len);
+            self.call(rng, opening);
         }
-        self.call(Call::Open { window, book_len, queue_len });
+        self.tidying = shape.tidies > 0;
+        self.call(rng, Call::Open { window, book_len, queue_len });
         if shape.readings > 0 {
             let steps: usize = paths.iter().map(|path| path.len() / 8).sum();
             self.lend(rng, shape, steps.min(MOST_AHEAD));
         }
-        for path in paths {
-            self.call(Call::Add { path });
-            if rng.chance(shape.readings) {
-                self.readings(rng, shape);
-            }
+        for (path, tidied) in paths.into_iter().zip(tidied) {
+            self.tidying = tidied;
+            self.add(rng, shape, Call::Add { path });
         }
         if shape.readings > 0 {
             self.readings(rng, shape);
         }
         if rng.chance(15) {
-            self.call(refused_opening(rng, window, book_len));
+            let opening = refused_opening(rng, window, book_len);
+            self.call(rng, opening);
+        }
+    }
+
+    /// An add, and what follows it up to the next. Where a tidy does, a path for which there was no room is
+    /// tried again.
+    fn add(&mut self, rng: &mut Rng, shape: &Shape, add: Call) {
+        let number = self.call(rng, add.clone()).number();
+        if rng.chance(shape.readings) {
+            self.readings(rng, shape);
+        }
+        if self.tidying {
+            self.play(Call::Tidy);
+            if number == 12 {
+                self.play(add);
+            }
         }
     }
 
@@ -142,8 +190,8 @@ impl Maker {
             0 => tables::damaged(rng, last),
             _ => tables::good(rng, last),
         };
-        self.call(Call::LendPriors(lent_priors));
-        self.call(Call::LendTables(lent_tables));
+        self.call(rng, Call::LendPriors(lent_priors));
+        self.call(rng, Call::LendTables(lent_tables));
     }
 
     /// The list's floor, now and then one next to it or none.
@@ -194,7 +242,7 @@ impl Maker {
                 _ => Call::KlDivStats,
             };
             let call = self.with_places(rng, call);
-            self.call(call);
+            self.call(rng, call);
         }
     }
 
@@ -244,14 +292,24 @@ fn places(rng: &mut Rng, count: usize, extra: usize) -> Places {
     }
 }
 
-/// A book's entries: as many as the paths need, or around that if books may be short.
-fn capacity(rng: &mut Rng, paths: &[Vec<u8>], short: bool) -> usize {
-    let mut ample = Recount::open(0, ENTRY_BYTES * MAX_ENTRIES, 0).expect("the largest book is taken");
-    for path in paths {
+/// The most entries that the paths need at any time, with tidies after those that `tidied` says.
+fn needed(window: u32, paths: &[Vec<u8>], tidied: impl Fn(usize) -> bool) -> usize {
+    let mut ample = Recount::open(window, ENTRY_BYTES * MAX_ENTRIES, PLACE_BYTES * window as usize)
+        .expect("the largest book is taken");
+    let mut most = 0;
+    for (number, path) in paths.iter().enumerate() {
         // A refused path needs no entries.
         let _ = ample.add_path(path);
+        if tidied(number) {
+            most = most.max(ample.state().used);
+            ample.tidy();
+        }
     }
-    let needed = ample.state().used as usize;
+    most.max(ample.state().used) as usize
+}
+
+/// A book's entries: as many as are needed, or around that if books may be short.
+fn capacity(rng: &mut Rng, needed: usize, short: bool) -> usize {
     match rng.below(8) {
         _ if !short => needed,
         0 => needed / 2,

@@ -9,12 +9,14 @@ use recount::{
 };
 
 /// A tracker that calls can be played on. Before the first accepted opening its state is all
-/// zero and it has no bytes; readings and adds come only after one.
+/// zero and it has no bytes; readings, adds and tidies come only after one.
 pub trait Side: Tracker {
     /// An opening.
     fn open(&mut self, window: u32, book_len: usize, queue_len: usize) -> Result<(), Refusal>;
     /// An add.
     fn add_path(&mut self, path: &[u8]) -> Result<(), Refusal>;
+    /// A tidy.
+    fn tidy(&mut self) -> Result<(), Refusal>;
     /// The state.
     fn state(&self) -> State;
     /// The book.
@@ -31,6 +33,9 @@ impl History {
     fn opened(&self) -> &Recount {
         self.0.as_ref().expect("calls come after an accepted opening")
     }
+    fn opened_mut(&mut self) -> &mut Recount {
+        self.0.as_mut().expect("adds and tidies come after an accepted opening")
+    }
 }
 
 impl Tracker for History {
@@ -45,7 +50,11 @@ impl Side for History {
         Ok(())
     }
     fn add_path(&mut self, path: &[u8]) -> Result<(), Refusal> {
-        self.0.as_mut().expect("adds come after an accepted opening").add_path(path)
+        self.opened_mut().add_path(path)
+    }
+    fn tidy(&mut self) -> Result<(), Refusal> {
+        self.opened_mut().tidy();
+        Ok(())
     }
     fn state(&self) -> State {
         self.0.as_ref().map(Recount::state).unwrap_or_default()
@@ -98,6 +107,11 @@ impl Side for Bytes {
         self.state = memory::add_path(self.state, book, queue, path)?;
         Ok(())
     }
+    fn tidy(&mut self) -> Result<(), Refusal> {
+        let (book, queue) = (&mut self.book[..self.book_len], &self.queue[..self.queue_len]);
+        self.state = memory::tidy(self.state, book, queue)?;
+        Ok(())
+    }
     fn state(&self) -> State {
         self.state
     }
@@ -114,7 +128,7 @@ impl Side for Bytes {
 pub enum Answer {
     /// To a lending.
     Lent,
-    /// To an opening or an add.
+    /// To an opening, an add or a tidy.
     Changed(Result<(), Refusal>),
     /// To a probability vector.
     Vector(Result<Option<ProbVector>, Refusal>, Places),
@@ -222,6 +236,7 @@ impl<S: Side> Player<S> {
                 Answer::Changed(self.side.open(*window, *book_len, *queue_len))
             }
             Call::Add { path } => Answer::Changed(self.side.add_path(path)),
+            Call::Tidy => Answer::Changed(self.side.tidy()),
             Call::LendTables(tables) => {
                 self.tables = tables.clone();
                 Answer::Lent

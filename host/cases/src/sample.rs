@@ -38,6 +38,11 @@ fn refusal_number<T>(result: Result<T, Refusal>) -> u32 {
     result.err().map_or(0, |refusal| refusal.number)
 }
 
+/// All call lists.
+pub fn all_lists() -> Vec<CallList> {
+    [call_lists(), large_lists(), reading_lists(), tidy_lists()].concat()
+}
+
 /// Lists of openings and adds.
 pub fn call_lists() -> Vec<CallList> {
     let short = Shape { readings: 0, adds: (0, 8), bad_paths: 3, floors: 0, ..Shape::small() };
@@ -68,10 +73,9 @@ pub fn large_lists() -> Vec<CallList> {
     vec![list(around.concat()), list(passed.concat())]
 }
 
-/// Lists with readings in between, some with floors, and two whose divergence is plus zero only by the
-/// order of its sums.
-pub fn reading_lists() -> Vec<CallList> {
-    let shape = Shape {
+/// Few addresses and short paths, so that lists with readings stay small.
+fn with_readings() -> Shape {
+    Shape {
         addresses: 4,
         adds: (2, 6),
         steps: 4,
@@ -80,7 +84,13 @@ pub fn reading_lists() -> Vec<CallList> {
         counts: vec![1, 3],
         floors: 0,
         ..Shape::small()
-    };
+    }
+}
+
+/// Lists with readings in between, some with floors, and two whose divergence is plus zero only by the
+/// order of its sums.
+pub fn reading_lists() -> Vec<CallList> {
+    let shape = with_readings();
     let random = (0..42).map(|seed| call_list(&mut Rng::new(3_500 + seed), &shape));
     let floored = Shape { floors: 100, ..shape.clone() };
     let floored = (0..8).map(|seed| call_list(&mut Rng::new(3_600 + seed), &floored));
@@ -118,6 +128,47 @@ fn around_a_floor() -> CallList {
         calls.extend(readings());
     }
     calls.extend([lend(0), add(&[at(-1), at(-2)])]);
+    calls.extend(readings());
+    CallList { fill: 0xa5, calls }
+}
+
+/// Lists with tidies, without readings and with them, some with floors, and one whose answers a tidy changes.
+pub fn tidy_lists() -> Vec<CallList> {
+    let plain = Shape { adds: (3, 9), readings: 0, bad_paths: 2, floors: 0, ..Shape::tidied() };
+    let plain = (0..16).map(|seed| call_list(&mut Rng::new(9_000 + seed), &plain));
+    let Shape { windows, tidies, .. } = Shape::tidied();
+    let read = Shape { windows, tidies, adds: (3, 7), readings: 12, floors: 20, ..with_readings() };
+    let read = (0..18).map(|seed| call_list(&mut Rng::new(9_500 + seed), &read));
+    plain.chain(read).chain([around_a_tidy()]).collect()
+}
+
+/// Window 1 in a book of four entries. A path that gets 12 is taken after the tidy. Readings before it are
+/// refused with 14, then with 15, by a node that it drops; and nodes and children that it drops have no
+/// place in those after it.
+fn around_a_tidy() -> CallList {
+    let [one, two, three] = [Address::new(-1, 7), Address::new(0, 3), Address::new(0, 7)];
+    let add = |path: &[Address]| Call::Add { path: path_bytes(path) };
+    let lend = |children: &[Address]| Call::LendPriors(priors::one_chain((one, 4), children, i32::MIN));
+    let output = Places { addresses: vec![0x33; 16], figures: vec![-1.0; 2] };
+    let readings = || {
+        let of_one = |node: Address| {
+            let output = output.clone();
+            [Call::EvidenceProbVector { node, output }, Call::PosteriorKlDivergence { node }]
+        };
+        let all = [Call::AllNodeKl { output: output.clone() }, Call::KlDivStats];
+        [one, three].into_iter().flat_map(of_one).chain(all)
+    };
+    let open = Call::Open { window: 1, book_len: 4 * ENTRY_BYTES, queue_len: PLACE_BYTES };
+    let mut calls = vec![open, add(&[one, two]), add(&[three]), add(&[one, three])];
+    for (last, children) in [(9, &[three][..]), (4, &[two][..])] {
+        calls.extend([Call::LendTables(tables::gamma(last)), lend(children)]);
+        calls.extend(readings());
+    }
+    calls.push(Call::Tidy);
+    calls.extend(readings());
+    calls.extend([add(&[one, three]), Call::LendTables(tables::gamma(9)), lend(&[two, three])]);
+    calls.extend(readings());
+    calls.extend([add(&[one]), Call::KlDivStats, Call::Tidy]);
     calls.extend(readings());
     CallList { fill: 0xa5, calls }
 }

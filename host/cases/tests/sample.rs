@@ -76,9 +76,7 @@ fn seen() -> Seen {
     let mut seen = Seen::default();
     sample::table_cases().iter().for_each(|tables| seen.result(&check_tables(tables.lent())));
     sample::priors_cases().iter().for_each(|case| seen.result(&check_priors(case.priors.lent())));
-    sample::call_lists().iter().for_each(|list| seen.list(list));
-    sample::large_lists().iter().for_each(|list| seen.list(list));
-    sample::reading_lists().iter().for_each(|list| seen.list(list));
+    sample::all_lists().iter().for_each(|list| seen.list(list));
     for mut add in sample::altered_adds() {
         seen.result(&memory::add_path(add.state, &mut add.book, &mut add.queue, &add.path));
     }

@@ -2,6 +2,7 @@
 //! that goko does not have, or where goko's index of a layer leaves 32 bits, nothing is compared;
 //! where they refuse with 14, 15 or 18, goko must break off, or give none for 14 of a single node.
 //! goko's own totals are held to the visits, and how many numbers it has to the least capacity.
+//! goko has no tidy: from one that is carried out to the next accepted opening it is left out.
 
 use crate::{Compared, Laws, Tally, Total};
 use cases::baselines::{StatsAsked, Training};
@@ -75,11 +76,15 @@ pub fn compare_list(list: &CallList, tally: &mut Tally) -> Compared {
 }
 
 /// goko's tracker beside another that is played the same calls.
-pub struct Beside(Goko);
+pub struct Beside {
+    goko: Goko,
+    /// Whether a tidy was carried out since the last accepted opening.
+    tidied: bool,
+}
 
 impl Default for Beside {
     fn default() -> Beside {
-        Beside(Goko::open(0))
+        Beside { goko: Goko::open(0), tidied: false }
     }
 }
 
@@ -94,6 +99,9 @@ impl Beside {
         laws: &Laws,
         tally: &mut Tally,
     ) -> Compared {
+        if self.is_left_out(call, answer, tally) {
+            return Ok(());
+        }
         let answered = matches!(answer.refusal(), None | Some(Refusal { number: 14 | 15, .. }));
         if answered && !tally.met.goko_answers(&call.looked_up(&played.side), &played.priors) {
             return Ok(());
@@ -110,26 +118,44 @@ impl Beside {
         Ok(())
     }
 
+    /// Whether goko has nothing to hold this call against, since a tidy was carried out. What is lent until
+    /// the next accepted opening is lent again there.
+    fn is_left_out(&mut self, call: &Call, answer: &Answer, tally: &mut Tally) -> bool {
+        let tidied = self.tidied;
+        match (call, answer) {
+            (Call::Tidy, Answer::Changed(Ok(()))) => self.tidied = true,
+            (Call::Open { .. }, Answer::Changed(Ok(()))) => self.tidied = false,
+            _ => {}
+        }
+        if tidied && !self.tidied {
+            tally.met.goko_again();
+        }
+        if self.tidied && !matches!(answer, Answer::Lent) {
+            tally.met.goko_left_out();
+        }
+        self.tidied
+    }
+
     fn lend(&mut self, played: &Player<History>) {
         oracle::lend_tables(&played.tables.g, &played.tables.d);
-        self.0.lend_priors(&goko_priors(&played.priors), played.priors.floor);
+        self.goko.lend_priors(&goko_priors(&played.priors), played.priors.floor);
     }
 
     fn change(&mut self, call: &Call, played: &Player<History>, laws: &Laws, tally: &mut Tally) -> Compared {
         tally.changes += 1;
         match call {
             Call::Add { path } => {
-                let added = self.0.add_path(&node_addresses(path));
+                let added = self.goko.add_path(&node_addresses(path));
                 added.map_err(|panic| format!("goko's add_path: {:?}", panic))?;
             }
             _ => {
-                self.0 = Goko::open(played.side.state().window as usize);
+                self.goko = Goko::open(played.side.state().window as usize);
                 self.lend(played);
             }
         }
         let evidence = played.side.evidence().expect("the recount's tracker is in form");
-        equal("sequence length", evidence.sequence_len as usize, self.0.sequence_len())?;
-        let theirs = self.0.evidence();
+        equal("sequence length", evidence.sequence_len as usize, self.goko.sequence_len())?;
+        let theirs = self.goko.evidence();
         let numbers = theirs.iter().map(|node| 1 + node.children.len()).sum();
         equal("counts", goko_evidence(&evidence), theirs)?;
         laws.hold_goko(&self.totals()?, numbers, &mut tally.met).map_err(|text| format!("goko: {}", text))
@@ -142,7 +168,7 @@ impl Beside {
             equal("total", whole as f64, total)?;
             Ok((Address::new(scale, point as u32), whole))
         };
-        self.0.totals().into_iter().map(whole).collect()
+        self.goko.totals().into_iter().map(whole).collect()
     }
 
     fn vector(
@@ -153,8 +179,8 @@ impl Beside {
         tally: &mut Tally,
     ) -> Compared {
         let theirs = match call {
-            Call::ProbVector { node, .. } => self.0.prob_vector(node_address(*node)),
-            Call::EvidenceProbVector { node, .. } => self.0.evidence_prob_vector(node_address(*node)),
+            Call::ProbVector { node, .. } => self.goko.prob_vector(node_address(*node)),
+            Call::EvidenceProbVector { node, .. } => self.goko.evidence_prob_vector(node_address(*node)),
             _ => unreachable!("only these two give vectors"),
         };
         let theirs = theirs.map_err(|panic| format!("goko's probability vector: {:?}", panic))?;
@@ -175,7 +201,7 @@ impl Beside {
         let Call::PosteriorKlDivergence { node } = call else {
             unreachable!("only this gives one divergence");
         };
-        match (answer, self.0.posterior_kl_divergence(node_address(*node))) {
+        match (answer, self.goko.posterior_kl_divergence(node_address(*node))) {
             (Ok(Some(ours)), Ok(Some(Some(theirs)))) => {
                 tally.readings += 1;
                 same(tally, "divergence", ours, theirs)
@@ -199,7 +225,7 @@ impl Beside {
         output: &Places,
         tally: &mut Tally,
     ) -> Compared {
-        match (answer, self.0.all_node_kl()) {
+        match (answer, self.goko.all_node_kl()) {
             (Ok(ours), Ok((list, skipped))) => {
                 tally.readings += 1;
                 equal("skipped", u64::from(ours.skipped), skipped)?;
@@ -212,7 +238,7 @@ impl Beside {
     }
 
     fn stats(&self, answer: Result<recount::KLDivergenceStats, Refusal>, tally: &mut Tally) -> Compared {
-        match (answer, self.0.kl_div_stats()) {
+        match (answer, self.goko.kl_div_stats()) {
             (Ok(ours), Ok((theirs, skipped))) => {
                 tally.readings += 1;
                 equal("skipped", u64::from(ours.skipped), skipped)?;

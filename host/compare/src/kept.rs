@@ -1,4 +1,5 @@
-//! W, the book's capacity and H since the last accepted opening, kept from the calls and their answers alone.
+//! W, the book's capacity, H since the last accepted opening and where in H listing begins since the last
+//! tidy, kept from the calls and their answers alone.
 
 use cases::calls::Call;
 use cases::play::Answer;
@@ -14,18 +15,22 @@ pub struct Kept {
     pub capacity: usize,
     /// H.
     pub paths: Vec<Vec<Address>>,
+    /// The paths of H that lay before the window part at the last tidy.
+    base: usize,
 }
 
 impl Kept {
     /// Takes in a call and its answer: an accepted opening sets W and the capacity and empties H, an accepted
-    /// add appends its path to H, and nothing else changes them.
+    /// add appends its path to H, a tidy that is carried out lets listing begin with the window part, and
+    /// nothing else changes them.
     pub fn hear(&mut self, call: &Call, answer: &Answer) {
         match (call, answer) {
             (Call::Open { window, book_len, .. }, Answer::Changed(Ok(()))) => {
                 let capacity = book_len / ENTRY_BYTES;
-                *self = Kept { window: Some(*window), capacity, paths: Vec::new() };
+                *self = Kept { window: Some(*window), capacity, ..Kept::default() };
             }
             (Call::Add { path }, Answer::Changed(Ok(()))) => self.paths.push(steps(path)),
+            (Call::Tidy, Answer::Changed(Ok(()))) => self.base = self.paths.len() - self.window_part().len(),
             _ => {}
         }
     }
@@ -33,6 +38,16 @@ impl Kept {
     /// Whether an opening was accepted.
     pub fn opened(&self) -> bool {
         self.window.is_some()
+    }
+
+    /// Whether no path ever leaves the window.
+    pub fn is_unlimited(&self) -> bool {
+        self.window == Some(0)
+    }
+
+    /// The paths whose nodes and transitions are listed.
+    pub fn listing(&self) -> &[Vec<Address>] {
+        &self.paths[self.base..]
     }
 
     /// The window part.

@@ -1,7 +1,9 @@
-//! What a tracker is held to after every call from an accepted opening on: its counts to the visits of its
-//! nodes, its used entries and its 12s to the least capacity. Each goes by W, the capacity and H alone.
+//! What a tracker is held to after every call from an accepted opening on: its entries to the window at the
+//! last tidy and the paths since, its counts to the visits of its nodes, its used entries and its 12s to the
+//! least capacity. Each goes by W, the capacity, H and the tidies alone.
 
 use crate::kept::Kept;
+use crate::listed::Listed;
 use crate::met::Met;
 use crate::room::Room;
 use crate::visited::{Total, Visited};
@@ -13,6 +15,7 @@ use cases::play::Answer;
 #[derive(Debug, Default)]
 pub struct Laws {
     kept: Kept,
+    listed: Listed,
     visited: Visited,
     room: Room,
 }
@@ -21,6 +24,7 @@ impl Laws {
     /// Takes in a call and its answer.
     pub fn hear(&mut self, call: &Call, answer: &Answer) {
         self.kept.hear(call, answer);
+        self.listed.hear(&self.kept, call, answer);
         self.visited.hear(&self.kept, call, answer);
         self.room.hear(&self.kept, call, answer);
     }
@@ -39,6 +43,7 @@ impl Laws {
             return Ok(());
         }
         self.room.hold(&self.kept, call, answer, used, met)?;
+        self.listed.hold(&self.kept, call, answer, (used, book), met)?;
         self.visited.hold(&self.kept, call, answer, (used, book), met)
     }
 

@@ -1,8 +1,9 @@
-//! What holds goko, the recount and the recount's part for lent bytes together, counts to visits and used
-//! entries to the least capacity; the program `compare` runs it on many cases, and `through` holds the
-//! archive's answers against goko's.
+//! What holds goko, the recount and the recount's part for lent bytes together, entries to the window at the
+//! last tidy and the paths since, counts to visits and used entries to the least capacity; the program
+//! `compare` runs it on many cases, and `through` holds the archive's answers against goko's.
 //! Without goko's sources the module `goko` compares nothing.
 
+mod entries;
 mod floors;
 #[cfg(not(no_goko))]
 pub mod goko;
@@ -11,6 +12,7 @@ pub mod goko;
 pub mod goko;
 mod kept;
 mod laws;
+mod listed;
 mod lookups;
 mod met;
 mod orders;
@@ -20,7 +22,8 @@ mod visited;
 
 pub use kept::Kept;
 pub use laws::Laws;
-pub use met::Met;
+pub use listed::Listed;
+pub use met::{in_tidied_lists, Met};
 pub use orders::Played;
 pub use room::{hold_sequences, Room};
 pub use visited::{Total, Visited};
@@ -51,13 +54,15 @@ pub struct Tally {
     pub none_for_14: u64,
     /// Calls that the recount refuses by limits that goko does not have.
     pub not_comparable: u64,
-    /// Adds on altered memory.
+    /// Adds on altered memory, each with a tidy of the same memory beside it.
     pub altered: u64,
     /// What the recount gave, by refusal number, 0 for an answer.
     pub numbers: BTreeMap<u32, u64>,
     /// What was tried of lists in every order.
     pub tried: Tried,
-    /// What was met of floors, child look-ups, visits and room.
+    /// Lists with tidies at every choice of places.
+    pub tidied: u64,
+    /// What was met of floors, child look-ups, visits, room and tidies.
     pub met: Met,
 }
 
@@ -94,12 +99,14 @@ impl Tally {
             *self.numbers.entry(*number).or_default() += count;
         }
         self.tried.join(other.tried);
+        self.tidied += other.tidied;
         self.met.join(&other.met);
     }
 
     /// Fails where something that is to be met was not met at all.
     pub fn met_all(&self) -> Compared {
         must(self.tried.books > 0, || "no list was tried in every order".to_string())?;
+        must(self.tidied > 0, || "no list was tried with tidies at every choice of places".to_string())?;
         match &self.met.missing()[..] {
             [] => Ok(()),
             missing => Err(format!("nothing was compared of: {}", missing.join("; "))),
@@ -109,7 +116,7 @@ impl Tally {
     /// Prints all of it.
     pub fn print(&self) {
         println!(
-            "{} call lists, {} adds on altered memory: the recount's two parts agree",
+            "{} call lists, {} adds and as many tidies on altered memory: the recount's two parts agree",
             self.lists, self.altered
         );
         println!("the recount's results by refusal number, 0 for an answer: {:?}", self.numbers);
@@ -123,6 +130,7 @@ impl Tally {
             "{} short lists in all their {} orders, in {} books: no 12 from the least capacity on, one or more below",
             lists, orders, books
         );
+        println!("{} short lists with tidies at every choice of places, in every book", self.tidied);
         self.met.print();
         if oracle::PRESENT {
             println!("with goko, {} figures bit for bit:", self.figures);

@@ -1,7 +1,8 @@
 //! Compares goko with the recount on many call lists, trainings, `stats` readings and look-ups of
 //! children, every figure bit for bit wherever goko does not panic; and the recount with its own part
-//! for lent bytes, on the same lists and on altered memory; all counts with the visits, and used entries
-//! and 12 with the least capacity. The seed decides all of it.
+//! for lent bytes, on the same lists and on altered memory; all entries with the window at the last tidy and
+//! the paths since, all counts with the visits, and used entries and 12 with the least capacity. The seed
+//! decides all of it.
 //!
 //!     compare [--lists N] [--seed S]
 
@@ -54,24 +55,22 @@ fn everything(lists: u64, seed: u64, tally: &mut Tally) -> Compared {
     exhaustive::each_short_list(|list| call_list_on_all(list, tally))?;
     let tried = exhaustive::each_order(|case| order_on_all(case, tally))?;
     tally.tried.join(tried);
+    tally.tidied += exhaustive::each_tidied(|list| call_list_on_all(list, tally))?;
     exhaustive::every_chain().iter().try_for_each(|case| lookups_on_both(case, tally))?;
     for number in 0..lists {
         let mut rng = Rng::new(seed.wrapping_mul(1 << 32).wrapping_add(number));
         one_of_each(&mut rng, tally).map_err(|text| format!("seed {}, list {}: {}", seed, number, text))?;
     }
-    for window in [1_023, 1_024] {
-        let mut rng = Rng::new(seed);
-        call_list_on_all(&call_list(&mut rng, &Shape::long(window)), tally)?;
+    for (window, tidies) in [(1_023, 0), (1_024, 0), (1_024, 5)] {
+        let shape = Shape { tidies, ..Shape::long(window) };
+        call_list_on_all(&call_list(&mut Rng::new(seed), &shape), tally)?;
     }
     Ok(())
 }
 
 /// The cases of the recorded sample.
 fn recorded_sample(tally: &mut Tally) -> Compared {
-    let lists = sample::call_lists().into_iter().chain(sample::large_lists()).chain(sample::reading_lists());
-    for list in lists {
-        call_list_on_all(&list, tally)?;
-    }
+    sample::all_lists().iter().try_for_each(|list| call_list_on_all(list, tally))?;
     for training in sample::trainings() {
         training_on_both(&training, tally)?;
     }
@@ -82,8 +81,8 @@ fn recorded_sample(tally: &mut Tally) -> Compared {
     sample::altered_adds().iter().try_for_each(|add| own::check_altered(add, tally))
 }
 
-/// A call list, now and then a training, a baseline to ask, adds on altered memory, and priors with
-/// look-ups in them.
+/// A call list, now and then a training, a baseline to ask, an add and a tidy on altered memory, priors with
+/// look-ups in them, and now and then a call list with tidies.
 fn one_of_each(rng: &mut Rng, tally: &mut Tally) -> Compared {
     call_list_on_all(&call_list(rng, &Shape::small()), tally)?;
     if rng.chance(25) {
@@ -96,7 +95,11 @@ fn one_of_each(rng: &mut Rng, tally: &mut Tally) -> Compared {
     own::check_altered(&altered::altered_add(rng, 4), tally)?;
     let lent = priors::refusable(rng);
     own::check_prior_case(&lent, tally)?;
-    lookups_on_both(&lookups::random(rng, lent), tally)
+    lookups_on_both(&lookups::random(rng, lent), tally)?;
+    if rng.chance(30) {
+        call_list_on_all(&call_list(rng, &Shape::tidied()), tally)?;
+    }
+    Ok(())
 }
 
 fn call_list_on_all(list: &CallList, tally: &mut Tally) -> Compared {

@@ -1,9 +1,10 @@
 //! What the recount must do by itself, goko or not: its two parts agree byte for byte on
 //! every list, a refused call changes nothing that is lent, an answer leaves the places past
-//! it alone, after every call the bytes count the visits of each node and use as many entries as the
-//! least capacity is, an add on altered memory changes what it may and nothing else, and a child's look-up
-//! tells what a walk along the chain finds and reads.
+//! it alone, after every call the bytes list and count what the paths say and use as many entries as the
+//! least capacity is, an add and a tidy on altered memory change what they may and nothing else, and a
+//! child's look-up tells what a walk along the chain finds and reads.
 
+use crate::entries::{entries, Key};
 use crate::{hold_sequences, Compared, Laws, Played, Tally};
 use cases::altered::AlteredAdd;
 use cases::baselines::Training;
@@ -95,12 +96,13 @@ fn past(places: &Places, filled: u32) -> Places {
     Places { addresses: places.addresses[8 * filled..].to_vec(), figures: places.figures[filled..].to_vec() }
 }
 
-/// An add on altered memory.
+/// A reading, a tidy and an add on altered memory.
 pub fn check_altered(add: &AlteredAdd, tally: &mut Tally) -> Compared {
-    let (mut book, mut queue) = (add.book.clone(), add.queue.clone());
-    let lent = Memory { state: add.state, book: &book, queue: &queue };
+    let lent = add.memory();
     let in_form = lent.form_holds();
     check_reading(&lent, in_form)?;
+    check_tidy(&lent, in_form, tally).map_err(|text| format!("{:?}\n{}", add, text))?;
+    let (mut book, mut queue) = (add.book.clone(), add.queue.clone());
     let answer = memory::add_path(add.state, &mut book, &mut queue, &add.path);
     tally.altered += 1;
     tally.result(&answer);
@@ -131,6 +133,39 @@ fn check_reading(lent: &Memory, in_form: bool) -> Compared {
         .flatten()
         .map_or(1.0, |vector| vector.ending + figures[..vector.places as usize].iter().sum::<f64>());
     must((total - 1.0).abs() < 1.0e-9, "probabilities add up to 1")
+}
+
+/// A tidy of altered memory is refused just where the form is broken. Else what it leaves has the form, keeps
+/// all counts that are not 0 and nothing that was not there, has no child of 0 and no node whose total is 0,
+/// and is followed by zeros.
+fn check_tidy(lent: &Memory, in_form: bool, tally: &mut Tally) -> Compared {
+    let mut book = lent.book.to_vec();
+    let answer = memory::tidy(lent.state, &mut book, lent.queue);
+    tally.result(&answer);
+    tally.met.altered_tidy(lent, answer, &book);
+    let state = match answer {
+        Err(refusal) => {
+            must(refusal == Refusal::plain(9) && !in_form, "a tidy's 9 is not the form test's answer")?;
+            return must(book == lent.book, "a refused tidy changed the book");
+        }
+        Ok(state) => state,
+    };
+    must(state == State { used: state.used, ..lent.state }, "state after a tidy")?;
+    let after = Memory { state, book: &book, queue: lent.queue };
+    must(in_form && after.form_holds(), "the form before and after a tidy")?;
+    let before: BTreeSet<(Key, u64)> = entries(lent.state.used, lent.book).collect();
+    let left: BTreeSet<(Key, u64)> = entries(state.used, &book).collect();
+    must(left.is_subset(&before), "a tidy left an entry that was not there")?;
+    must(before.difference(&left).all(|(_, count)| *count == 0), "a tidy dropped an entry that counts")?;
+    let zero_child = |((_, child), count): &(Key, u64)| child.is_some() && *count == 0;
+    must(!left.iter().any(zero_child), "a tidy left a child of 0")?;
+    let nodes =
+        after.evidence().map_err(|refusal| format!("a tidied book is refused with {:?}", refusal))?.nodes;
+    must(nodes.values().all(|node| node.total() > 0), "a tidy left a node whose counts are all 0")?;
+    must(book[ENTRY_BYTES * left.len()..].iter().all(|byte| *byte == 0), "zeros follow to the book's end")?;
+    let mut again = book.clone();
+    let answer = memory::tidy(state, &mut again, lent.queue);
+    must(answer == Ok(state) && again == book, "a second tidy changed something")
 }
 
 fn check_accepted(add: &AlteredAdd, state: State, book: &[u8], queue: &[u8]) -> Compared {

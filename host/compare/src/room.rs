@@ -1,7 +1,7 @@
 //! Holds a tracker's used entries and its 12s to the least capacity, after every call from an accepted
-//! opening on, and tells what was met of both. The least capacity is told by H alone: by its different
-//! addresses and its different pairs of neighbours. A training is held to that of the sequence which needs
-//! most.
+//! opening on, and tells what was met of both. The least capacity is told by paths alone, those of H from the
+//! last tidy's window part on: by their different addresses and their different pairs of neighbours. A
+//! training is held to that of the sequence which needs most.
 
 use crate::kept::Kept;
 use crate::met::Met;
@@ -20,6 +20,10 @@ const AFTER_12: &str = "adds taken after a 12";
 const BY_LENGTH: &str = "adds taken with fewer than 2n - 1 entries free, for n steps";
 const BOTH_WAYS: &str = "paths taken that have a pair in both directions";
 const NEVER_ENDED: &str = "paths taken with a node that no path has ended at";
+const ROOM_BY_TIDIES: &str = "adds taken in a book that would be too small without the tidies before them";
+const FULL_AFTER_TIDIES: &str = "adds among these that fill the book to its last entry";
+const FREED: &str = "adds that got 12 before a tidy and are taken after it";
+const STILL_12: &str = "adds that got 12 before a tidy and after it";
 const TRAINED_FULL: &str = "trainings finished in a book with no entry to spare";
 const TRAINING_LACKS_ONE: &str = "trainings stopped by 12 for whose sequences one entry is lacking";
 const WITH_GOKO: &str = "openings and adds after which goko has as many numbers as the least capacity";
@@ -28,14 +32,19 @@ const WITH_GOKO: &str = "openings and adds after which goko has as many numbers 
 pub const MET: [&str; 9] =
     [HELD, FILLED, LACKS_ONE, AFTER_12, BY_LENGTH, BOTH_WAYS, NEVER_ENDED, TRAINED_FULL, TRAINING_LACKS_ONE];
 pub const MET_WITH_GOKO: [&str; 1] = [WITH_GOKO];
+/// What is to be met in lists with tidies.
+pub const WITH_TIDIES: [&str; 4] = [ROOM_BY_TIDIES, FULL_AFTER_TIDIES, FREED, STILL_12];
 
 /// What H tells of its room.
 #[derive(Debug, Default)]
 pub struct Room {
-    /// The least capacity that serves H.
+    /// The least capacity that serves what H lists.
     least: usize,
     /// Whether an add got 12 since the opening.
     short: bool,
+    /// The paths that got 12 since the last tidy, and those that did before it and were not tried again.
+    refused: BTreeSet<Vec<Address>>,
+    refused_before: BTreeSet<Vec<Address>>,
     /// The nodes that a path of H ends at.
     ended: BTreeSet<Address>,
 }
@@ -56,8 +65,12 @@ impl Room {
         match (call, answer) {
             (Call::Open { .. }, Answer::Changed(Ok(()))) => *self = Room::default(),
             (Call::Add { .. }, Answer::Changed(Ok(()))) => {
-                self.least = least(&kept.paths);
+                self.least = least(kept.listing());
                 self.ended.extend(kept.paths.last().and_then(|path| path.last()));
+            }
+            (Call::Tidy, Answer::Changed(Ok(()))) => {
+                self.least = least(kept.listing());
+                self.refused_before.append(&mut self.refused);
             }
             _ => {}
         }
@@ -80,8 +93,8 @@ impl Room {
         }
     }
 
-    /// An add of a whole path gets 12 where H with the path needs more entries than the book has, and else is
-    /// taken, unless as many paths were accepted as can be.
+    /// An add of a whole path gets 12 where what is listed, with the path, needs more entries than the book
+    /// has, and else is taken, unless as many paths were accepted as can be.
     fn hold_add(
         &mut self,
         kept: &Kept,
@@ -94,14 +107,17 @@ impl Room {
         if accepted >= MAX_ACCEPTED as usize {
             return Ok(());
         }
-        let with_it = || kept.paths.iter().map(Vec::as_slice).chain([path]).collect::<Vec<&[Address]>>();
+        let with_it = || kept.listing().iter().map(Vec::as_slice).chain([path]).collect::<Vec<&[Address]>>();
         let needed = if taken { self.least } else { least(&with_it()) };
         let expected = if needed > capacity { 12 } else { 0 };
         must(number == expected, || {
             format!("an add with which {} entries are needed is answered {} in {}", needed, number, capacity)
         })?;
         met.whole_add(self, &Add { path, before, needed, capacity, taken });
+        met.room_by_tidies(kept, (taken, needed));
+        met.tried_again(self.refused_before.remove(path), taken);
         self.short |= !taken;
+        self.refused.extend((!taken).then(|| path.to_vec()));
         Ok(())
     }
 
@@ -150,6 +166,21 @@ impl Met {
             self.count(BOTH_WAYS, has_a_pair_both_ways(path));
             self.count(NEVER_ENDED, path.iter().any(|node| !room.ended.contains(node)));
         }
+    }
+
+    /// Counts an add with which `needed` entries are listed.
+    fn room_by_tidies(&mut self, kept: &Kept, (taken, needed): (bool, usize)) {
+        // Where nothing was dropped the two are the same.
+        if taken && kept.listing().len() < kept.paths.len() && least(&kept.paths) > kept.capacity {
+            self.count(ROOM_BY_TIDIES, true);
+            self.count(FULL_AFTER_TIDIES, needed == kept.capacity);
+        }
+    }
+
+    /// Counts an add of a path that got 12 before a tidy, where it did.
+    fn tried_again(&mut self, refused_before: bool, taken: bool) {
+        self.count(FREED, refused_before && taken);
+        self.count(STILL_12, refused_before && !taken);
     }
 
     /// Counts an opening or an add after which goko has as many numbers as the least capacity.

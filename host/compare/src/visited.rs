@@ -1,13 +1,13 @@
 //! Holds a tracker's counts to the visits of its nodes, after every call from an accepted opening on, and
 //! tells what was met of visits. The counts are read from the tracker's bytes, or are goko's.
 
+use crate::entries::entries;
 use crate::kept::Kept;
 use crate::met::Met;
 use crate::{must, Compared};
 use cases::calls::Call;
 use cases::play::Answer;
-use recount::limits::ENTRY_BYTES;
-use recount::{step_count, visits, word, Address};
+use recount::{step_count, visits, Address};
 use std::collections::{BTreeMap, BTreeSet};
 
 const HELD: &str = "calls after which all counts were held to the visits";
@@ -16,12 +16,13 @@ const ANEW: &str = "openings among these that follow accepted adds";
 const TWICE: &str = "paths taken that visit a node more than once";
 const TO_ITSELF: &str = "paths taken that go from a node to itself";
 const ALL_LEFT: &str = "adds after which a listed node's total is 0, since its paths have left the window";
+const TIDIED: &str = "tidies among these, after which no listed node's total is 0";
 const BEGAN: &str = "adds after which a node has visits, and a path that began at it has left the window";
 const WITH_GOKO: &str = "openings and adds after which goko's totals were held to the visits";
 const ZERO_IN_GOKO: &str = "adds among these after which a node's total is 0 in goko, too";
 
 /// What is to be met without goko and with it.
-pub const MET: [&str; 7] = [HELD, REFUSED, ANEW, TWICE, TO_ITSELF, ALL_LEFT, BEGAN];
+pub const MET: [&str; 8] = [HELD, REFUSED, ANEW, TIDIED, TWICE, TO_ITSELF, ALL_LEFT, BEGAN];
 pub const MET_WITH_GOKO: [&str; 2] = [WITH_GOKO, ZERO_IN_GOKO];
 
 /// A listed node and its evidence total.
@@ -56,7 +57,7 @@ impl Visited {
     }
 
     /// Takes in a call and its answer, which `kept` has heard, and holds what the book's used entries then
-    /// count to the visits.
+    /// count to the visits. After a tidy every listed node has some.
     pub fn hold(
         &mut self,
         kept: &Kept,
@@ -74,6 +75,11 @@ impl Visited {
         match (call, answer) {
             (Call::Open { .. }, Answer::Changed(Ok(()))) => met.count(ANEW, had_paths),
             (Call::Add { .. }, Answer::Changed(Ok(()))) => met.added(kept, self, &totals),
+            (Call::Tidy, Answer::Changed(Ok(()))) => {
+                let without = totals.iter().find(|(_, total)| *total == 0);
+                must(without.is_none(), || format!("{:?} is listed after a tidy", without))?;
+                met.count(TIDIED, true);
+            }
             _ => {}
         }
         Ok(())
@@ -101,10 +107,9 @@ impl Visited {
 /// The evidence totals of all listed nodes, as the used entries have them.
 fn totals(used: u32, book: &[u8]) -> Result<Vec<Total>, String> {
     let mut totals: Vec<Total> = Vec::new();
-    for entry in book.chunks(ENTRY_BYTES).take(used as usize) {
-        let (node, kind, count) = (Address::read(entry), word(entry, 2), u64::from(word(entry, 5)));
+    for ((node, child), count) in entries(used, book) {
         match totals.last_mut() {
-            _ if kind == 0 => totals.push((node, count)),
+            _ if child.is_none() => totals.push((node, count)),
             Some((listed, total)) if *listed == node => *total += count,
             _ => return Err(format!("{:?} has a child's entry and is not listed", node)),
         }

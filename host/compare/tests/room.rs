@@ -100,6 +100,43 @@ fn an_ending_that_no_path_has() {
     assert!(!passes(after(5, &[]), &add(&[TWO, ONE, TWO]), 0, 3));
 }
 
+/// (ONE, TWO) has left the window of a book of three entries, TWO is in it, and both took all three.
+fn before_a_tidy() -> (Kept, Room) {
+    after(3, &[&[ONE, TWO], &[TWO]])
+}
+
+fn tidied((mut kept, mut room): (Kept, Room)) -> (Kept, Room) {
+    kept.hear(&Call::Tidy, &answered(0));
+    room.hear(&kept, &Call::Tidy, &answered(0));
+    (kept, room)
+}
+
+/// Shuts out a tidy that keeps too much or too little, and 12 by what it dropped.
+#[test]
+fn room_after_a_tidy() {
+    let back = add(&[TWO, ONE]);
+    assert!(passes(before_a_tidy(), &back, 12, 3) && !passes(before_a_tidy(), &back, 0, 4));
+    for used in 0..4 {
+        assert_eq!(passes(before_a_tidy(), &Call::Tidy, 0, used), used == 1, "{} entries", used);
+        assert_eq!(passes(tidied(before_a_tidy()), &Call::Tidy, 0, used), used == 1, "{} entries", used);
+    }
+    assert!(passes(tidied(before_a_tidy()), &back, 0, 3));
+    assert!(!passes(tidied(before_a_tidy()), &back, 12, 1), "12 by what was listed before");
+    let twice = add(&[ONE, TWO, ONE]);
+    assert!(passes(tidied(before_a_tidy()), &twice, 12, 1) && !passes(tidied(before_a_tidy()), &twice, 0, 4));
+}
+
+/// Shuts out 12 by the window part alone: TWO has left since the tidy and keeps its entry, so that one is
+/// free where two are needed.
+#[test]
+fn room_for_what_leaves_after_a_tidy() {
+    let (mut kept, mut room) = tidied(before_a_tidy());
+    kept.hear(&add(&[ONE]), &answered(0));
+    room.hear(&kept, &add(&[ONE]), &answered(0));
+    let three = Address::new(0, 7);
+    assert!(passes((kept, room), &add(&[ONE, three]), 12, 2));
+}
+
 /// A path that is not whole is another number's matter.
 #[test]
 fn paths_that_are_not_whole() {

@@ -35,11 +35,11 @@ impl Evidence {
         self.nodes.values().map(|node| 1 + node.children.len()).sum()
     }
 
-    /// Nodes and children are listed over all of `paths`, counts are occurrences in the last
-    /// `window` of them, or in all if the window is 0.
-    pub fn of_history(window: u32, paths: &[Vec<Address>]) -> Evidence {
+    /// Nodes and children are listed over `paths` from number `base` on, counts are occurrences in
+    /// the last `window` of all, or in all if the window is 0.
+    pub fn of_history(window: u32, paths: &[Vec<Address>], base: usize) -> Evidence {
         let mut evidence = Evidence::default();
-        for path in paths {
+        for path in &paths[base..] {
             evidence.list(path);
         }
         let window_part = window_part(window, paths);

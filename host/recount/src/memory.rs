@@ -1,15 +1,16 @@
 //! One call on given state, book and queue, whoever wrote them. Each call but an opening
 //! tests the form first (9). An add then adds, takes away the path that leaves, never below
 //! 0 and passing over what is missing, and writes its place whole. Bytes past the new used
-//! entries stay as they were.
+//! entries stay as they were. A tidy drops entries, by counts alone, and zeroes those bytes.
 
 use crate::address::{steps, word, Address};
 use crate::evidence::Evidence;
 use crate::limits::{ENTRY_BYTES, MAX_ACCEPTED, MAX_COUNT, MAX_STEPS, MAX_WINDOW, PLACE_BYTES, STEP_BYTES};
 use crate::readings::Tracker;
-use crate::recount::{check_opening, check_path, entry_bytes, lengths_hold, place_bytes};
+use crate::recount::{check_opening, check_path, lengths_hold, place_bytes, used_entries};
 use crate::refusal::{refuse, Refusal};
 use crate::State;
+use std::collections::BTreeSet;
 
 /// A tracker as it is lent to a reading.
 #[derive(Debug, Clone, Copy)]
@@ -61,9 +62,29 @@ pub fn add_path(state: State, book: &mut [u8], queue: &mut [u8], path: &[u8]) ->
         }
         place.copy_from_slice(&place_bytes(&path));
     }
-    let used = entry_bytes(&evidence);
+    let used = used_entries(&evidence);
     book[..used.len()].copy_from_slice(&used);
     Ok(State { used: evidence.entries() as u32, accepted: state.accepted + 1, ..state })
+}
+
+/// A tidy: 9; else the new state. Of the used entries a child's stays where its count is not 0, an ending
+/// where one or more counts of its node are not; zeros follow to the book's end.
+pub fn tidy(state: State, book: &mut [u8], queue: &[u8]) -> Result<State, Refusal> {
+    let lent = Memory { state, book, queue };
+    refuse(9, !lent.form_holds())?;
+    let entries = lent.entries();
+    let counted: BTreeSet<Address> =
+        entries.iter().filter(|entry| entry.count > 0).map(|entry| entry.node).collect();
+    let stays = |entry: &Entry| match entry.kind {
+        0 => counted.contains(&entry.node),
+        _ => entry.count > 0,
+    };
+    let lent = book.chunks(ENTRY_BYTES).zip(&entries);
+    let kept: Vec<u8> =
+        lent.filter(|(_, entry)| stays(entry)).flat_map(|(bytes, _)| bytes.to_vec()).collect();
+    book.fill(0);
+    book[..kept.len()].copy_from_slice(&kept);
+    Ok(State { used: (kept.len() / ENTRY_BYTES) as u32, ..state })
 }
 
 impl Memory<'_> {

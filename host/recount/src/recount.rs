@@ -1,8 +1,8 @@
-//! The plain recount: W and H, fed the calls' arguments alone. State, book bytes and queue
-//! bytes are images of W and H, worked out afresh whenever they are asked for.
+//! The plain recount: W, H and where listing begins in H, fed the calls' arguments alone. State, book
+//! bytes and queue bytes are images of these, worked out afresh whenever they are asked for.
 
 use crate::address::{path_bytes, steps, Address};
-use crate::evidence::Evidence;
+use crate::evidence::{window_part, Evidence};
 use crate::limits::{ENTRY_BYTES, MAX_ACCEPTED, MAX_ENTRIES, MAX_STEPS, MAX_WINDOW, PLACE_BYTES, STEP_BYTES};
 use crate::readings::Tracker;
 use crate::refusal::{refuse, Refusal};
@@ -14,6 +14,8 @@ use crate::State;
 pub struct Recount {
     window: u32,
     paths: Vec<Vec<Address>>,
+    /// How many paths of H lay before the window part at the last tidy; 0 where there was none.
+    base: usize,
     book_len: usize,
     queue_len: usize,
 }
@@ -22,7 +24,7 @@ impl Recount {
     /// An opening with a window and the lengths of the lent book and queue: 8, then 9.
     pub fn open(window: u32, book_len: usize, queue_len: usize) -> Result<Recount, Refusal> {
         check_opening(window, book_len, queue_len)?;
-        Ok(Recount { window, paths: Vec::new(), book_len, queue_len })
+        Ok(Recount { window, paths: Vec::new(), base: 0, book_len, queue_len })
     }
 
     /// An add of a path's lent bytes: 10, 11, 12.
@@ -38,6 +40,12 @@ impl Recount {
         Ok(())
     }
 
+    /// A tidy: what the window part holds stays listed, and what left it is listed no more. W and H stay,
+    /// and it is never refused.
+    pub fn tidy(&mut self) {
+        self.base = self.paths.len() - window_part(self.window, &self.paths).len();
+    }
+
     /// W, the nodes and transitions listed, the paths in H.
     pub fn state(&self) -> State {
         State {
@@ -49,7 +57,7 @@ impl Recount {
 
     /// The book, byte for byte.
     pub fn book(&self) -> Vec<u8> {
-        let mut book = entry_bytes(&self.counted());
+        let mut book = used_entries(&self.counted());
         book.resize(self.book_len, 0);
         book
     }
@@ -66,9 +74,9 @@ impl Recount {
         queue
     }
 
-    /// Nodes, transitions and their counts, for H and its window part.
+    /// The nodes and transitions of H from the base on, and their counts in its window part.
     pub fn counted(&self) -> Evidence {
-        Evidence::of_history(self.window, &self.paths)
+        Evidence::of_history(self.window, &self.paths, self.base)
     }
 }
 
@@ -100,19 +108,23 @@ pub(crate) fn check_path(bytes: &[u8]) -> Result<(), Refusal> {
     refuse(10, !(whole && (1..=MAX_STEPS).contains(&(bytes.len() / STEP_BYTES))))
 }
 
+/// The bytes of an entry: of a node's ending, or of a child under the node.
+pub fn entry_bytes(node: Address, child: Option<Address>, count: u32) -> [u8; ENTRY_BYTES] {
+    let mut bytes = [0; ENTRY_BYTES];
+    bytes[..8].copy_from_slice(&node.bytes());
+    bytes[8..12].copy_from_slice(&u32::from(child.is_some()).to_le_bytes());
+    bytes[12..20].copy_from_slice(&child.unwrap_or_default().bytes());
+    bytes[20..].copy_from_slice(&count.to_le_bytes());
+    bytes
+}
+
 /// The used entries: nodes ascending, the ending first, then children ascending.
-pub(crate) fn entry_bytes(evidence: &Evidence) -> Vec<u8> {
+pub(crate) fn used_entries(evidence: &Evidence) -> Vec<u8> {
     let mut bytes = Vec::new();
-    let mut entry = |node: &Address, kind: u32, child: &Address, count: u32| {
-        bytes.extend(node.bytes());
-        bytes.extend(kind.to_le_bytes());
-        bytes.extend(child.bytes());
-        bytes.extend(count.to_le_bytes());
-    };
     for (node, counted) in &evidence.nodes {
-        entry(node, 0, &Address::default(), counted.ending);
+        bytes.extend(entry_bytes(*node, None, counted.ending));
         for (child, count) in &counted.children {
-            entry(node, 1, child, *count);
+            bytes.extend(entry_bytes(*node, Some(*child), *count));
         }
     }
     bytes

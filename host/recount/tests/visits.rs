@@ -2,16 +2,15 @@
 //! where it is a child. After every call the evidence total of each listed node is its visits, and all
 //! counts together are the steps, in the history and on lent bytes alike.
 
-use recount::limits::{ENTRY_BYTES, MAX_WINDOW, PLACE_BYTES};
+mod both;
+
+use both::Both;
+use recount::limits::MAX_WINDOW;
 use recount::*;
 
 const ONE: Address = Address::new(2, 1);
 const TWO: Address = Address::new(1, 1);
 const THREE: Address = Address::new(-1, 7);
-
-fn number<T>(result: Result<T, Refusal>) -> u32 {
-    result.err().map_or(0, |refusal| refusal.number)
-}
 
 fn plain(paths: &[&[Address]]) -> Vec<Vec<Address>> {
     paths.iter().map(|path| path.to_vec()).collect()
@@ -23,45 +22,12 @@ fn visits_in(paths: &[&[Address]]) -> [u64; 3] {
     [ONE, TWO, THREE].map(|node| visits.get(&node).copied().unwrap_or(0))
 }
 
-/// A tracker as its history and as lent bytes.
-struct Both {
-    history: Recount,
-    state: State,
-    book: Vec<u8>,
-    queue: Vec<u8>,
-}
-
 impl Both {
-    fn open(window: u32, entries: usize) -> Both {
-        let mut book = vec![0xff; ENTRY_BYTES * entries];
-        let mut queue = vec![0xff; PLACE_BYTES * window as usize];
-        let history = Recount::open(window, book.len(), queue.len()).unwrap();
-        let state = memory::open(window, &mut book, &mut queue).unwrap();
-        Both { history, state, book, queue }
-    }
-
-    /// The refusal's number, 0 where the path is taken.
-    fn add(&mut self, path: &[Address]) -> u32 {
-        let path = path_bytes(path);
-        let answer = memory::add_path(self.state, &mut self.book, &mut self.queue, &path);
-        assert_eq!(self.history.add_path(&path), answer.map(|_| ()));
-        self.state = answer.unwrap_or(self.state);
-        number(answer)
-    }
-
-    /// Adds paths that are taken.
-    fn after(mut self, paths: &[&[Address]]) -> Both {
-        paths.iter().for_each(|path| assert_eq!(self.add(path), 0));
-        self
-    }
-
     /// The totals of `ONE`, `TWO` and `THREE`, none of a node that is not listed, and all counts together.
     fn totals(&self) -> ([Option<u64>; 3], u64) {
-        let bytes = Memory { state: self.state, book: &self.book, queue: &self.queue };
-        let [history, bytes] = [self.history.evidence(), bytes.evidence()].map(Result::unwrap);
-        assert_eq!(history, bytes);
-        let total = |node: &Address| bytes.nodes.get(node).map(NodeEvidence::total);
-        ([ONE, TWO, THREE].map(|node| total(&node)), bytes.nodes.values().map(NodeEvidence::total).sum())
+        let nodes = self.evidence().nodes;
+        let total = |node: &Address| nodes.get(node).map(NodeEvidence::total);
+        ([ONE, TWO, THREE].map(|node| total(&node)), nodes.values().map(NodeEvidence::total).sum())
     }
 
     /// The window part is `window_part`, with these totals and steps by hand, and its visits are the totals.
@@ -160,11 +126,26 @@ fn a_refused_add_in_between() {
 #[test]
 fn a_further_opening() {
     let mut both = Both::open(1, 9).after(&[&[ONE, TWO], &[TWO, TWO]]);
-    assert_eq!(number(memory::open(MAX_WINDOW + 1, &mut both.book, &mut both.queue)), 8);
+    let refused = memory::open(MAX_WINDOW + 1, &mut both.book, &mut both.queue);
+    assert_eq!(refused, Err(Refusal::plain(8)));
     both.must_have(&[&[TWO, TWO]], [Some(0), Some(2), None], 2);
     both.state = memory::open(0, &mut both.book, &mut both.queue).unwrap();
     both.history = Recount::open(0, both.book.len(), both.queue.len()).unwrap();
     both.must_have(&[], [None, None, None], 0);
     let paths: [&[Address]; 2] = [&[ONE], &[THREE, ONE]];
     both.after(&paths).must_have(&paths, [Some(2), None, Some(1)], 3);
+}
+
+/// Shuts out a tidy that drops what still counts, or that forgets the window: what leaves it later would be
+/// missing, or be taken away too late.
+#[test]
+fn tidies_in_between() {
+    let paths: [&[Address]; 4] = [&[ONE, TWO], &[TWO, THREE], &[THREE], &[THREE, THREE]];
+    let full = Both::open(2, 9).after(&paths[..2]).tidied();
+    full.must_have(&paths[..2], [Some(1), Some(2), Some(1)], 4);
+    let passed = full.after(&paths[2..3]);
+    passed.must_have(&paths[1..3], [Some(0), Some(1), Some(2)], 3);
+    let passed = passed.tidied();
+    passed.must_have(&paths[1..3], [None, Some(1), Some(2)], 3);
+    passed.after(&paths[3..]).must_have(&paths[2..], [None, Some(0), Some(3)], 3);
 }

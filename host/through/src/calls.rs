@@ -250,6 +250,13 @@ impl Archive {
         Ok(carried_out(answer))
     }
 
+    /// `teakpool_tidy`. That it leaves the queue alone is for `holds` to tell.
+    pub fn tidy(&mut self) -> Told<Result<(), Refusal>> {
+        let answer = archive::tidy(self.state.array_mut(), self.book.now_mut(), self.queue.now());
+        self.bands()?;
+        Ok(carried_out(answer))
+    }
+
     fn lay_output(&mut self, output: &Places) {
         self.addresses.lay(&output.addresses);
         self.figures.lay(&output.figures);

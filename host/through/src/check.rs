@@ -1,6 +1,6 @@
 //! One case through the archive and on the recount: answers, outputs, state and every byte of
-//! book and queue must be the same, figures bit for bit, and after every call of a list the book must
-//! count the visits of each node and use as many entries as the least capacity is. The archive's answers go
+//! book and queue must be the same, figures bit for bit, and after every call of a list the book must list
+//! and count what the paths say and use as many entries as the least capacity is. The archive's answers go
 //! to goko, too.
 
 use crate::calls::{Archive, Held, Told};
@@ -14,7 +14,7 @@ use compare::goko::{self, Beside};
 use compare::{hold_sequences, must, Compared, Laws, Played, Tally};
 use recount::{
     all_node_kl, check_priors, check_tables, evidence_prob_vector, kl_div_stats, memory,
-    posterior_kl_divergence, prob_vector, same_figures, Address,
+    posterior_kl_divergence, prob_vector, same_figures, Address, Memory, Refusal, State,
 };
 use std::fmt::Debug;
 
@@ -29,6 +29,7 @@ fn play(archive: &mut Archive, call: &Call, fill: u8) -> Told<Answer> {
             Answer::Changed(archive.open(*window, (*book_len, *queue_len), fill)?)
         }
         Call::Add { path } => Answer::Changed(archive.add_path(path)?),
+        Call::Tidy => Answer::Changed(archive.tidy()?),
         Call::LendTables(tables) => {
             archive.lend_tables(tables);
             Answer::Lent
@@ -113,7 +114,7 @@ fn one_call(
     Ok(answer)
 }
 
-/// An add and all readings on memory that others wrote.
+/// All readings, a tidy and an add on memory that others wrote.
 pub fn altered(
     archive: &mut Archive,
     add: &AlteredAdd,
@@ -136,22 +137,45 @@ pub fn altered(
         let lent = archive.lends_tables(tables) && archive.lends_priors(priors);
         must(lent, || format!("{:?} changed what it was lent", call))?;
     }
-    add_altered(archive, add, held, tally)
+    tidied(archive, &held, tally)?;
+    archive.hold(&held);
+    tally.altered += 1;
+    let answer = archive.add_path(&add.path)?;
+    let left = |after: &mut Held| memory::add_path(held.state, &mut after.book, &mut after.queue, &add.path);
+    let held = as_recounted(archive, &held, answer, left, tally);
+    held.map(|_| ()).map_err(|text| format!("an add of {:?}\n{}", add.path, text))
 }
 
-fn add_altered(archive: &mut Archive, add: &AlteredAdd, mut held: Held, tally: &mut Tally) -> Compared {
-    let answer = archive.add_path(&add.path)?;
-    let recounted = memory::add_path(add.state, &mut held.book, &mut held.queue, &add.path);
-    tally.altered += 1;
+/// A tidy of memory, whoever wrote it, and a second one.
+pub fn tidied(archive: &mut Archive, held: &Held, tally: &mut Tally) -> Compared {
+    archive.hold(held);
+    let left = |after: &mut Held| memory::tidy(after.state, &mut after.book, &after.queue);
+    let answer = archive.tidy()?;
+    let after = as_recounted(archive, held, answer, left, tally)?;
+    let lent = Memory { state: held.state, book: &held.book, queue: &held.queue };
+    tally.met.altered_tidy(&lent, answer.map(|()| after.state), &after.book);
+    let answer = archive.tidy()?;
+    as_recounted(archive, &after, answer, left, tally).map(|_| ())
+}
+
+/// Holds the archive's answer to a call on `held` to the recount's, and what it left there to what the
+/// recount leaves. Gives the latter.
+fn as_recounted(
+    archive: &Archive,
+    held: &Held,
+    answer: Result<(), Refusal>,
+    left: impl Fn(&mut Held) -> Result<State, Refusal>,
+    tally: &mut Tally,
+) -> Told<Held> {
+    let mut after = held.clone();
+    let recounted = left(&mut after);
     tally.result(&recounted);
-    if let Ok(state) = recounted {
-        held.state = state;
-    }
-    let recounted = recounted.map(|_| ());
-    must(recounted == answer, || format!("{:?}\n{}", add, differ("answer", recounted, answer)))?;
-    must(archive.holds(&held), || {
-        format!("{:?}\n{}", add, differ("state, book and queue", &held, archive.held()))
-    })
+    after.state = recounted.unwrap_or(held.state);
+    must(recounted.map(|_| ()) == answer, || format!("{:?}\n{}", held, differ("answer", recounted, answer)))?;
+    must(archive.holds(&after), || {
+        format!("{:?}\n{}", held, differ("state, book and queue", &after, archive.held()))
+    })?;
+    Ok(after)
 }
 
 /// All five readings, of a node that the book begins with and of one that it may lack.

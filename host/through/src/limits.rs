@@ -1,9 +1,10 @@
-//! Every short list, also in every order, every short chain, the recorded sample, and cases at the limits:
-//! tables of 1, 2, 1,048,576 and 1,048,577 entries and a U at the last index, priors of the most records and
-//! one more, as many in scales of their own below a floor, chains of 62 to 65 with look-ups in them, books
-//! and queues at their largest sizes, the largest book full, long windows, 1,024 knots and one more.
+//! Every short list, also in every order and with tidies at every choice of places, every short chain, the
+//! recorded sample, and cases at the limits: tables of 1, 2, 1,048,576 and 1,048,577 entries and a U at the
+//! last index, priors of the most records and one more, as many in scales of their own below a floor, chains
+//! of 62 to 65 with look-ups in them, books and queues at their largest sizes, the largest book full, and
+//! tidied, long windows, 1,024 knots and one more.
 
-use crate::calls::Archive;
+use crate::calls::{Archive, Held};
 use crate::check;
 use cases::baselines::Training;
 use cases::calls::{Call, CallList, Places, PriorBytes, Tables};
@@ -16,13 +17,11 @@ use recount::limits::{
     ENTRY_BYTES, KNOT_VALUES, MAX_CHAIN, MAX_CHILDREN, MAX_ENTRIES, MAX_KNOTS, MAX_NODES, MAX_STEPS,
     PLACE_BYTES,
 };
-use recount::{least, path_bytes, record_bytes, Address};
+use recount::{entry_bytes, least, path_bytes, record_bytes, Address, State};
 
 /// All of them.
 pub fn all(archive: &mut Archive, tally: &mut Tally) -> Compared {
-    for list in sample::call_lists().into_iter().chain(sample::large_lists()).chain(sample::reading_lists()) {
-        check::list(archive, &list, tally)?;
-    }
+    sample::all_lists().iter().try_for_each(|list| check::list(archive, list, tally))?;
     let output = Places { addresses: vec![0x11; 64], figures: vec![-1.0; 8] };
     let beside = (&tables::gamma(40), &PriorBytes::default(), &output);
     sample::altered_adds().iter().try_for_each(|add| check::altered(archive, add, beside, tally))?;
@@ -37,15 +36,18 @@ pub fn all(archive: &mut Archive, tally: &mut Tally) -> Compared {
     exhaustive::each_short_list(|list| check::list(archive, list, tally))?;
     let tried = exhaustive::each_order(|case| check::order(archive, case, tally))?;
     tally.tried.join(tried);
+    tally.tidied += exhaustive::each_tidied(|list| check::list(archive, list, tally))?;
     exhaustive::under_floors().iter().try_for_each(|lent| check::priors(archive, lent, tally))?;
     table_lengths(archive, tally)?;
     prior_sizes(archive, tally)?;
     widest_chains(archive, tally)?;
     scales_below_a_floor(archive, tally)?;
     fullest_book(archive, tally)?;
+    tidied_books(archive, tally)?;
     knots(archive, tally)?;
-    [1_023, 1_024].iter().try_for_each(|window| {
-        check::list(archive, &call_list(&mut Rng::new(u64::from(*window)), &Shape::long(*window)), tally)
+    [(1_023, 0), (1_024, 0), (1_024, 5)].into_iter().try_for_each(|(window, tidies)| {
+        let shape = Shape { tidies, ..Shape::long(window) };
+        check::list(archive, &call_list(&mut Rng::new(u64::from(window)), &shape), tally)
     })
 }
 
@@ -154,24 +156,64 @@ fn scales_below_a_floor(archive: &mut Archive, tally: &mut Tally) -> Compared {
     Ok(())
 }
 
-/// A list that needs as many entries as a book can have, and the same backwards; and both in a book of one
-/// entry less. Each path is of 64 new nodes, so of 127 entries, and one is of a single node.
-fn fullest_book(archive: &mut Archive, tally: &mut Tally) -> Compared {
+/// Paths that need as many entries as a book can have. Each is of 64 new nodes, so of 127 entries, and one is
+/// of a single node.
+fn filling_paths() -> Vec<Vec<Address>> {
     let node = |number: usize| Address::new(number as i32 % 5 - 2, number as u32);
     let path = |first: usize| (first..first + MAX_STEPS).map(node).collect();
     let whole = MAX_ENTRIES / (2 * MAX_STEPS - 1);
     let mut paths: Vec<Vec<Address>> = (0..whole).map(|number| path(MAX_STEPS * number)).collect();
     paths.push(vec![node(MAX_STEPS * whole)]);
+    paths
+}
+
+/// An opening with window 1 and a book of so many entries, and adds of these paths.
+fn adds_to(capacity: usize, paths: &[Vec<Address>]) -> Vec<Call> {
+    let open = Call::Open { window: 1, book_len: ENTRY_BYTES * capacity, queue_len: PLACE_BYTES };
+    let adds = paths.iter().map(|path| Call::Add { path: path_bytes(path) });
+    [open].into_iter().chain(adds).collect()
+}
+
+/// A list that needs as many entries as a book can have, and the same backwards; and both in a book of one
+/// entry less.
+fn fullest_book(archive: &mut Archive, tally: &mut Tally) -> Compared {
+    let mut paths = filling_paths();
     let least = least(&paths);
     must(least == MAX_ENTRIES, || format!("the list needs {} entries", least))?;
     for _ in 0..2 {
         for capacity in [MAX_ENTRIES - 1, MAX_ENTRIES] {
-            let open = Call::Open { window: 1, book_len: ENTRY_BYTES * capacity, queue_len: PLACE_BYTES };
-            let adds = paths.iter().map(|path| Call::Add { path: path_bytes(path) });
-            let list = CallList { fill: 0xa5, calls: [open].into_iter().chain(adds).collect() };
+            let list = CallList { fill: 0xa5, calls: adds_to(capacity, &paths) };
             check::order(archive, &Ordered { list, capacity, least }, tally)?;
         }
         paths.reverse();
+    }
+    Ok(())
+}
+
+/// Tidies of the largest book full: of what a list left in it, after which the first paths are taken again;
+/// and of nodes without children and of one node with all the children, with counts of 0, of 1, and of both
+/// in turn.
+fn tidied_books(archive: &mut Archive, tally: &mut Tally) -> Compared {
+    let paths = filling_paths();
+    let again = paths[..3].iter().map(|path| Call::Add { path: path_bytes(path) });
+    let calls = adds_to(MAX_ENTRIES, &paths).into_iter().chain([Call::Tidy]).chain(again).chain([Call::Tidy]);
+    check::list(archive, &CallList { fill: 0xa5, calls: calls.collect() }, tally)?;
+    let counts: [fn(usize) -> u32; 4] =
+        [|_| 0, |_| 1, |index| index as u32 % 2, |index| 1 - index as u32 % 2];
+    for count in counts {
+        for one_node in [false, true] {
+            let entry = |index: usize| {
+                let (own, node) = (Address::new(2, index as u32), Address::new(3, 0));
+                match index {
+                    _ if !one_node => entry_bytes(own, None, count(index)),
+                    0 => entry_bytes(node, None, count(index)),
+                    _ => entry_bytes(node, Some(own), count(index)),
+                }
+            };
+            let book = (0..MAX_ENTRIES).flat_map(entry).collect();
+            let state = State { window: 0, used: MAX_ENTRIES as u32, accepted: 0 };
+            check::tidied(archive, &Held { state, book, queue: Vec::new() }, tally)?;
+        }
     }
     Ok(())
 }

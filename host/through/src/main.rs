@@ -1,6 +1,6 @@
 //! Many cases through the archive, each held against the recount and, where goko's sources are
-//! there, against goko: random call lists with readings, adds and readings on altered memory,
-//! trainings, baselines, tables, priors and look-ups in them, and cases at the limits. Memory around
+//! there, against goko: random call lists with readings and tidies, adds, tidies and readings on altered
+//! memory, trainings, baselines, tables, priors and look-ups in them, and cases at the limits. Memory around
 //! everything lent is guarded. The seed decides all of it.
 //!
 //!     through [--lists N] [--long] [--seed S] [--threads T]
@@ -62,8 +62,8 @@ fn main() -> ExitCode {
     match everything(&given) {
         Ok((tally, calls)) => {
             println!(
-                "through the archive: {} call lists, {} adds on altered memory, {} calls; \
-                 all as the recount has it",
+                "through the archive: {} call lists, {} adds and as many tidies on altered memory, \
+                 {} calls; all as the recount has it",
                 tally.lists, tally.altered, calls
             );
             println!("results by refusal number, 0 for an answer: {:?}", tally.numbers);
@@ -131,8 +131,8 @@ fn part(
     Ok((tally, archive.calls))
 }
 
-/// A call list, adds on altered memory, tables, and priors with look-ups; now and then a training or a
-/// baseline.
+/// A call list, an add and a tidy on altered memory, tables, and priors with look-ups; now and then a
+/// training, a baseline or a call list with tidies.
 fn one_of_each(archive: &mut Archive, rng: &mut Rng, tally: &mut Tally) -> Compared {
     check::list(archive, &call_list(rng, &Shape::small()), tally)?;
     altered(archive, rng, tally)?;
@@ -147,7 +147,11 @@ fn one_of_each(archive: &mut Archive, rng: &mut Rng, tally: &mut Tally) -> Compa
     check::tables(archive, &tables::damaged(rng, last), tally)?;
     let lent = priors::refusable(rng);
     check::priors(archive, &lent, tally)?;
-    check::lookups(archive, &lookups::random(rng, lent), tally)
+    check::lookups(archive, &lookups::random(rng, lent), tally)?;
+    if rng.chance(30) {
+        check::list(archive, &call_list(rng, &Shape::tidied()), tally)?;
+    }
+    Ok(())
 }
 
 /// Altered memory with priors over the addresses that its book begins with.

@@ -1,6 +1,6 @@
-//! calls.bin, large.bin and readings.bin: call lists. Each call is followed by what it gives;
-//! an opening and an add by the state and sums of book and queue as well. A list ends with
-//! the whole book and queue.
+//! calls.bin, large.bin, readings.bin and tidies.bin: call lists. Each call is followed by what it
+//! gives; an opening, an add and a tidy by the state and sums of book and queue as well. A list ends
+//! with the whole book and queue.
 
 use crate::limits::{within, Sizes, OUTPUT_BYTES, OUTPUT_FIGURES, PATH_BYTES, TABLE_ENTRIES};
 use crate::words::{checksum, Case, Reader};
@@ -17,6 +17,7 @@ const EVIDENCE_PROB_VECTOR: u32 = 6;
 const POSTERIOR_KL_DIVERGENCE: u32 = 7;
 const ALL_NODE_KL: u32 = 8;
 const KL_DIV_STATS: u32 = 9;
+const TIDY: u32 = 10;
 
 pub fn record(lists: Vec<CallList>) -> Vec<Case> {
     lists.iter().map(record_list).collect()
@@ -45,6 +46,7 @@ fn write_call(case: &mut Case, call: &Call) {
             case.word(ADD);
             case.bytes(path);
         }
+        Call::Tidy => case.word(TIDY),
         Call::LendTables(tables) => {
             case.word(LEND_TABLES);
             case.figures(&tables.g);
@@ -183,6 +185,7 @@ fn read_call(reader: &mut Reader, sizes: &Sizes) -> Result<Call, String> {
         POSTERIOR_KL_DIVERGENCE => Call::PosteriorKlDivergence { node: reader.address()? },
         ALL_NODE_KL => Call::AllNodeKl { output: read_places(reader)? },
         KL_DIV_STATS => Call::KlDivStats,
+        TIDY => Call::Tidy,
         kind => return Err(format!("kind {} is not known", kind)),
     })
 }

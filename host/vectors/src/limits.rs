@@ -7,7 +7,7 @@ pub struct Sizes {
     pub queue_bytes: usize,
 }
 
-/// In calls.bin and readings.bin.
+/// In calls.bin, readings.bin and tidies.bin.
 pub const SMALL: Sizes = Sizes { book_bytes: 64 * 24, queue_bytes: 9 * 516 };
 /// In large.bin.
 pub const LARGE: Sizes = Sizes { book_bytes: 16_385 * 24, queue_bytes: 1_024 * 516 };

@@ -26,7 +26,7 @@ struct Recorded {
     replay: fn(&mut Reader) -> Result<(), String>,
 }
 
-const FILES: [Recorded; 6] = [
+const FILES: [Recorded; 7] = [
     Recorded {
         name: "priors.bin",
         most: 32_768,
@@ -60,6 +60,13 @@ const FILES: [Recorded; 6] = [
         most: 131_072,
         magic: *b"TPR1",
         cases: || calls::record(sample::reading_lists()),
+        replay: |reader| calls::replay(reader, &limits::SMALL),
+    },
+    Recorded {
+        name: "tidies.bin",
+        most: 65_536,
+        magic: *b"TPY1",
+        cases: || calls::record(sample::tidy_lists()),
         replay: |reader| calls::replay(reader, &limits::SMALL),
     },
     Recorded {
