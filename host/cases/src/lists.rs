@@ -1,6 +1,6 @@
 //! Random call lists. Each is played on the recount while it is made, so that books, tables
 //! and outputs can be a little too small, just large enough, or larger. Where tidies come between the
-//! other calls, most books are large enough with them alone.
+//! other calls, three of four books are sized by what is needed with them.
 
 use crate::calls::{Call, CallList, Places, PriorBytes, Tables};
 use crate::paths::{below, floor, lent_path, universe_around, FOREIGN};
