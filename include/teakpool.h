@@ -16,11 +16,13 @@
  *                        goko's None, or its prior does not have the child asked for, which goko counts as 0. Each function that can
  *                        return it says when. Nothing is written, but that teakpool_child tells how many records it read;
  *   1 to 18, 22          the call is refused, by the numbers of `enum teakpool_refusal`. Nothing is written, but 14 and 15 write
- *                        node_scale and node_point where the call has them, and a training that 10, 12, 14 or 15 stops leaves its
- *                        book, knots and values all zero to their ends.
- * Where several numbers hold the lowest is returned, with three exceptions. 22 comes right after 7. 14 and 15 go by node: the first
+ *                        node_scale and node_point where the call has them, a training that 10, 12, 14 or 15 stops leaves its
+ *                        book, knots and values all zero to their ends, and teakpool_add_paths keeps the paths that it took before
+ *                        the refused one and tells how many they are.
+ * Where several numbers hold the lowest is returned, with four exceptions. 22 comes right after 7. 14 and 15 go by node: the first
  * listed node, ascending, that has one of them decides, and in that node 14 comes before 15. Training tests 16 after 9 and 13 after
- * 16, and then returns the first of 10, 12, 14 and 15 that its work meets.
+ * 16, and then returns the first of 10, 12, 14 and 15 that its work meets. After 9 teakpool_add_paths goes by place: the first that
+ * has 10, 11 or 12 decides.
  *
  * Memory. The caller owns all of it. The library allocates nothing, keeps no pointer and no state after a call, prints nothing and
  * never ends the program. A tracker is what stands in `state`, `book` and `queue`: it may be copied, saved and moved as bytes. Calls
@@ -39,12 +41,14 @@
  * Every content of the memory is allowed. What breaks a rule is refused by its number, or read as docs/RULES.md says of memory
  * altered by others, and never out of bounds.
  *
- * Stack. No plain function takes more than TEAKPOOL_STACK bytes, beside what memset takes, and none that is lent no priors more than
+ * Stack. teakpool_add_paths takes up to TEAKPOOL_STACK_ADD_PATHS bytes, beside what memset takes: it notes in tables of 98,336 bytes
+ * where entries stand. No other plain function takes more than TEAKPOOL_STACK, and no other that is lent no priors more than
  * TEAKPOOL_STACK_WITHOUT_PRIORS: 22 is tested with 16,384 bytes, which the calls that are lent priors take with a floor and without.
- * examples/c/test.sh measures this in the archive's machine code, prints it for each function and fails past these two. It counts,
+ * examples/c/test.sh measures this in the archive's machine code, prints it for each function and fails past these three. It counts,
  * along the deepest chain of calls, every push and every `sub` on the stack pointer of each function, the return addresses, and the
  * 128 bytes below the stack pointer that the last function of the chain may use without moving it. There is no recursion and no call
- * through a pointer. The calls over structs add the frame that the compiler gives them, teakpool_try_path the largest.
+ * through a pointer. The calls over structs add the frame that the compiler gives them, teakpool_try_path the largest. That the
+ * stack is there no call can test.
  *
  * Byte forms. Fields are 32 bits, little-endian. An address is a scale (i32) and a point (u32), 8 bytes; addresses ascend by scale
  * as a signed number, then by point.
@@ -56,6 +60,7 @@
  *                   count. Its capacity is its length / 24
  *   queue           516 bytes a place, at least `window` places: length in steps, steps, zeros. A window of 0 needs none
  *   sequences       516 bytes a path, as in a queue; bytes after its steps are not read
+ *   places          the same, of any number of paths; the last may be cut off, and is then refused
  *   tables          g[k] is ln gamma at k and d[k] is digamma at k; index 0 is never read
  *
  * Floor. Priors are lent with a floor, which is a scale. A node whose scale is below the floor has the prior of the node record that
@@ -79,15 +84,16 @@
  *     then kind, then child, and each node begins with its ending;
  *   - lengths of 1 to 64 in the filled places of the queue, the lesser of window and paths accepted.
  * The test reads nothing else. In memory altered by others that has the form, an add that takes away from a count of 0 leaves 0 and
- * passes over an entry that is missing, and a tidy goes by the counts alone.
+ * passes over an entry that is missing, and a tidy goes by the counts alone. teakpool_add_paths tests the form when it begins. Its
+ * adds keep it, but that in altered memory they may take counts past 2^30; where one is so at the end, the next call gives 9.
  *
  * Visits. A node's evidence total is the counts of its used entries together, its ending's and its children's. From an accepted
- * opening on, and after any openings, adds, tidies and readings, refused ones included, it may be read as the node's visits: how
- * often the paths of the window come to it, each path that begins at it being one, and each step to it from another or from itself
- * one more. So a path that meets a node twice visits it twice, and a listed node's total is 0 exactly where no path of the window
- * holds it; one that is not listed has no visits. All counts of the book together are the steps of the window's paths. These are the
- * last paths accepted since the last accepted opening, up to its window, or all of them where that is 0: a path that has left the
- * window no longer counts. examples/c/visits.c reads visits from a book.
+ * opening on, and after any openings, adds of one path or of many, tidies and readings, refused ones included, it may be read as
+ * the node's visits: how often the paths of the window come to it, each path that begins at it being one, and each step to it from
+ * another or from itself one more. So a path that meets a node twice visits it twice, and a listed node's total is 0 exactly where
+ * no path of the window holds it; one that is not listed has no visits. All counts of the book together are the steps of the
+ * window's paths. These are the last paths accepted since the last accepted opening, up to its window, or all of them where that is
+ * 0: a path that has left the window no longer counts. examples/c/visits.c reads visits from a book.
  * The total may not be read so where anything else wrote into state, book or queue, a training that was lent the book included, or
  * where a call gets them otherwise than the last one left them: the form does not hold counts against the queue, and every count is
  * taken as it stands. The bytes of all three, saved together and put back together, go on as if nothing had come between; a copy of
@@ -114,9 +120,9 @@
 
 /* The version of this header; teakpool_version() tells that of the archive. CHANGELOG.md says what counts as a break. */
 #define TEAKPOOL_VERSION_MAJOR 0u
-#define TEAKPOOL_VERSION_MINOR 4u
+#define TEAKPOOL_VERSION_MINOR 5u
 #define TEAKPOOL_VERSION_PATCH 0u
-#define TEAKPOOL_VERSION_STRING "0.4.0"
+#define TEAKPOOL_VERSION_STRING "0.5.0"
 #define TEAKPOOL_VERSION (1000000u * TEAKPOOL_VERSION_MAJOR + 1000u * TEAKPOOL_VERSION_MINOR + TEAKPOOL_VERSION_PATCH)
 
 /* A call's answer is to be looked at, and none of its pointers is NULL. */
@@ -133,7 +139,9 @@ extern "C" {
 #define TEAKPOOL_DONE 0u
 #define TEAKPOOL_NONE 100u
 
-/* Bytes of stack that no call passes, and that none passes which is lent no priors. */
+/* Bytes of stack that teakpool_add_paths does not pass; that no other call passes; and that of these none passes which is lent no
+ * priors. */
+#define TEAKPOOL_STACK_ADD_PATHS 102400u
 #define TEAKPOOL_STACK 17408u
 #define TEAKPOOL_STACK_WITHOUT_PRIORS 1024u
 
@@ -246,6 +254,25 @@ TEAKPOOL_CALL
 uint32_t teakpool_add_path(uint32_t state[3], uint8_t *book, size_t book_length, uint8_t *queue, size_t queue_length,
                            const uint8_t *path, size_t path_length);
 
+/* Adds a list of paths, as of a recorded day, each as teakpool_add_path adds it, from the first place on and up to the first that is
+ * refused. taken becomes the number of paths added, in every case. State, book and queue are left as that many single adds leave
+ * them, and the answer is the refused path's: 11 and 12 as a single add would then get them, the paths taken before it counting.
+ * A place is 516 bytes: the path's length in steps, and its steps. Bytes after these are not read; in the queue zeros stand there.
+ * A refused path lies at places + 516 x taken, worked out in size_t: 32 bits do not hold every such product. What was taken before
+ * stays in, and the places after it are not tried. To go on, call again with the places from there on, after a tidy where it was 12,
+ * or leave the path out and call again with those after it. examples/c/batch.c does both.
+ * The form is tested when the call begins, and not for each path. So only in memory altered by others a count can pass 2^30 within a
+ * call, where the next of the single adds would get 9; here the next call does, where a count is still past it.
+ * The call is for long lists. It zeroes its tables each time, and from 100 places on fills them from the book, so that it is cheap
+ * from some 100 places on. It takes more stack than any other, TEAKPOOL_STACK_ADD_PATHS. goko has no such call.
+ * Limits: any places_length, 0 too; the length of each path 1 to 64; at most 16,777,216 paths accepted after an opening.
+ * Refused: 9 if the form is broken, whether there are places or not; then taken is 0, and nothing else is written. For each place in
+ * turn: 10 if under 516 bytes are left, though the path's steps may all be there, or if its length is not 1 to 64; 11 and 12 as in
+ * teakpool_add_path. */
+TEAKPOOL_CALL
+uint32_t teakpool_add_paths(uint32_t state[3], uint8_t *book, size_t book_length, uint8_t *queue, size_t queue_length,
+                            const uint8_t *places, size_t places_length, uint32_t *taken);
+
 /* Tidies a book: drops every child entry with a count of 0 and every node whose ending and children are all 0, closes the gaps, and
  * zeroes the book from there to its end. state[1], entries used, becomes the number kept. The window, the paths accepted, the
  * sequence length and all counts stay; the queue is only read, for the form. Later paths may use the places.
@@ -352,9 +379,9 @@ uint32_t teakpool_stats(const uint32_t *knots, size_t knots_length, const double
  * points at what is lent, which has to live as long as the struct is used.
  *
  * NULL with another length, as an allocation that failed gives it, is refused by the calls that need what is missing: 1 for a table,
- * 3 for records, 9 for a book, 10 for a path, 16 for sequences. The slice then has a length of 1, which none of these may have. A
- * queue that is missing has a length of 0, so that an opening with any window but 0 gives 9; output and baseline have no places and
- * no room, so that an answer or a training with any gives 13. */
+ * 3 for records, 9 for a book, 10 for a path and for places, 16 for sequences. The slice then has a length of 1, which none of these
+ * may have. A queue that is missing has a length of 0, so that an opening with any window but 0 gives 9; output and baseline have no
+ * places and no room, so that an answer or a training with any gives 13. */
 
 /* An address that is not NULL, for a slice that is empty or missing. Nothing is written there. */
 static inline void *teakpool_nowhere(void)
@@ -384,8 +411,20 @@ TEAKPOOL_SLICE(nodes, const uint8_t, 1)    /* node records */
 TEAKPOOL_SLICE(children, const uint8_t, 1) /* child records */
 TEAKPOOL_SLICE(book, uint8_t, 1)
 TEAKPOOL_SLICE(queue, uint8_t, 0)
-TEAKPOOL_SLICE(path, const uint8_t, 1) /* a path's steps */
+TEAKPOOL_SLICE(path, const uint8_t, 1)   /* a path's steps */
+TEAKPOOL_SLICE(places, const uint8_t, 1) /* paths, 516 bytes each */
 #undef TEAKPOOL_SLICE
+
+/* The places from that with this number on, counted from 0; none where there are not so many. From taken on they begin with the
+ * refused one, from taken + 1 on with the next. */
+TEAKPOOL_CALL
+static inline struct teakpool_places teakpool_places_from(struct teakpool_places places, size_t number)
+{
+    size_t before = number <= places.length / TEAKPOOL_PLACE_SIZE ? number * TEAKPOOL_PLACE_SIZE : places.length;
+    places.at += before;
+    places.length -= before;
+    return places;
+}
 
 /* The tables of ln gamma and digamma. */
 struct teakpool_tables {
@@ -556,8 +595,8 @@ static inline struct teakpool_baseline teakpool_make_baseline(uint32_t *knots, d
     return baseline;
 }
 
-/* Answers. A call that is not carried out leaves them as they were, but 14 and 15 write the node, and teakpool_priors_child writes read
- * where it gives none. */
+/* Answers. A call that is not carried out leaves them as they were, but 14 and 15 write the node, teakpool_priors_child writes read
+ * where it gives none, and teakpool_tracker_add_paths writes taken in every case. */
 
 /* Of teakpool_child: the child's count in the prior, and how many child records were read. */
 struct teakpool_child_found {
@@ -626,6 +665,13 @@ static inline uint32_t teakpool_tracker_add_path(struct teakpool_tracker *tracke
 {
     return teakpool_add_path(tracker->state, tracker->book.at, tracker->book.length, tracker->queue.at, tracker->queue.length,
                              path.at, path.length);
+}
+
+TEAKPOOL_CALL
+static inline uint32_t teakpool_tracker_add_paths(struct teakpool_tracker *tracker, struct teakpool_places places, uint32_t *taken)
+{
+    return teakpool_add_paths(tracker->state, tracker->book.at, tracker->book.length, tracker->queue.at, tracker->queue.length,
+                              places.at, places.length, taken);
 }
 
 TEAKPOOL_CALL

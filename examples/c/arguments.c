@@ -8,7 +8,7 @@
 
 /* What is lent. Nothing is read here or written: lengths are numbers to tell by. */
 static double g[1], d[1], figures[1], values[1];
-static uint8_t book[1], queue[1], path[1], nodes[1], children[1], addresses[1], sequences[1];
+static uint8_t book[1], queue[1], path[1], paths[1], nodes[1], children[1], addresses[1], sequences[1];
 static uint32_t knots[1];
 
 static uint64_t seen[64];
@@ -104,6 +104,15 @@ uint32_t teakpool_add_path(uint32_t state[3], uint8_t *book_at, size_t book_leng
     tracker_seen(state, book_at, book_length, queue_at, queue_length);
     slice(path_at, path_length);
     return answer >= TEAKPOOL_MISSING_CHILD ? TEAKPOOL_DONE : answer;
+}
+
+uint32_t teakpool_add_paths(uint32_t state[3], uint8_t *book_at, size_t book_length, uint8_t *queue_at, size_t queue_length,
+                            const uint8_t *places_at, size_t places_length, uint32_t *taken)
+{
+    tracker_seen(state, book_at, book_length, queue_at, queue_length);
+    slice(places_at, places_length);
+    *taken = 45;
+    return answer;
 }
 
 uint32_t teakpool_tidy(uint32_t state[3], uint8_t *book_at, size_t book_length, const uint8_t *queue_at, size_t queue_length)
@@ -286,6 +295,7 @@ static void on_priors_and_trackers(void)
 {
     struct teakpool_vector vector;
     struct teakpool_child_found found;
+    uint32_t taken = 0;
     double value;
     expect(teakpool_tables_check(tables) == answer, "teakpool_tables_check");
     HANDED("what teakpool_check_tables is handed", TABLES);
@@ -293,6 +303,9 @@ static void on_priors_and_trackers(void)
     HANDED("what teakpool_check_priors is handed", PRIORS);
     expect(teakpool_priors_child(priors, node, teakpool_make_address(-28, 29), &found) == answer, "teakpool_priors_child");
     HANDED("what teakpool_child is handed", PRIORS, NODE, (uint64_t)(int64_t)-28, 29, place(&found.count), place(&found.read));
+    expect(teakpool_tracker_add_paths(&tracker, teakpool_make_places(paths, 30), &taken) == answer, "teakpool_tracker_add_paths");
+    HANDED("what teakpool_add_paths is handed", TRACKER, place(paths), 30);
+    expect(taken == 45, "the number of paths taken, whatever the answer");
     expect(teakpool_tracker_tidy(&tracker) == answer, "teakpool_tracker_tidy");
     HANDED("what teakpool_tidy is handed", TRACKER);
     expect(teakpool_tracker_prob_vector(&tracker, priors, node, output, &vector) == answer, "teakpool_tracker_prob_vector");

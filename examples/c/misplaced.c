@@ -4,20 +4,21 @@
 
 uint32_t misplaced(struct teakpool_tracker *tracker, struct teakpool_priors priors, struct teakpool_tables tables,
                    struct teakpool_output output, struct teakpool_list *list, struct teakpool_sequences *sequences,
-                   struct teakpool_address node, struct teakpool_child_found *found);
+                   struct teakpool_address node, struct teakpool_child_found *found, struct teakpool_places places, uint32_t *taken);
 
 uint32_t misplaced(struct teakpool_tracker *tracker, struct teakpool_priors priors, struct teakpool_tables tables,
                    struct teakpool_output output, struct teakpool_list *list, struct teakpool_sequences *sequences,
-                   struct teakpool_address node, struct teakpool_child_found *found)
+                   struct teakpool_address node, struct teakpool_child_found *found, struct teakpool_places places, uint32_t *taken)
 {
-    (void)sequences, (void)node, (void)found;
+    (void)sequences, (void)node, (void)found, (void)places, (void)taken;
 #if CASE == 0
     tables = teakpool_make_tables(tables.g, tables.d);
     priors = teakpool_priors_with_floor(teakpool_make_priors(priors.nodes, priors.children), teakpool_make_floor(-3));
     *tracker = teakpool_make_tracker(tracker->book, tracker->queue);
     output = teakpool_make_output(output.addresses, output.figures, output.places);
     *sequences = teakpool_make_sequences(sequences->at, sequences->length, sequences->s, sequences->n, sequences->rate);
-    if (teakpool_priors_child(priors, node, node, found) != TEAKPOOL_DONE || teakpool_tracker_tidy(tracker) != TEAKPOOL_DONE) {
+    if (teakpool_priors_child(priors, node, node, found) != TEAKPOOL_DONE || teakpool_tracker_tidy(tracker) != TEAKPOOL_DONE ||
+        teakpool_tracker_add_paths(tracker, teakpool_places_from(places, 1), taken) != TEAKPOOL_DONE) {
         return TEAKPOOL_NONE;
     }
 #elif CASE == 1  /* the two tables */
@@ -66,6 +67,21 @@ uint32_t misplaced(struct teakpool_tracker *tracker, struct teakpool_priors prio
     return teakpool_tracker_tidy((const struct teakpool_tracker *)tracker);
 #elif CASE == 23 /* no queue in a plain tidy */
     return teakpool_tidy(tracker->state, tracker->book.at, tracker->book.length, NULL, 0);
+#elif CASE == 24 /* paths of which some may have been refused */
+    teakpool_tracker_add_paths(tracker, places, taken);
+#elif CASE == 25 /* a path's steps where places go */
+    return teakpool_tracker_add_paths(tracker, teakpool_make_path(places.at, places.length), taken);
+#elif CASE == 26 /* places where a path's steps go */
+    return teakpool_tracker_add_path(tracker, places);
+#elif CASE == 27 /* nowhere for the number of paths taken */
+    return teakpool_tracker_add_paths(tracker, places, NULL);
+#elif CASE == 28 /* the number itself */
+    return teakpool_tracker_add_paths(tracker, places, *taken);
+#elif CASE == 29 /* the rest of the places, which nobody takes */
+    teakpool_places_from(places, 1);
+#elif CASE == 30 /* no places in a plain call */
+    return teakpool_add_paths(tracker->state, tracker->book.at, tracker->book.length, tracker->queue.at, tracker->queue.length,
+                              NULL, 0, taken);
 #else
 #error "there is no such case"
 #endif

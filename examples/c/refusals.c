@@ -47,6 +47,11 @@ static uint8_t book[ENTRIES * TEAKPOOL_ENTRY_SIZE];
 static uint8_t queue[TEAKPOOL_PLACE_SIZE];
 static uint8_t path[2 * TEAKPOOL_STEP_SIZE];
 
+/* A list of paths, and a tracker's memory for single adds. */
+static uint8_t list[3 * TEAKPOOL_PLACE_SIZE];
+static uint32_t single_state[3];
+static uint8_t single_book[sizeof book], single_queue[sizeof queue];
+
 /* Outputs. */
 static uint8_t addresses[2 * TEAKPOOL_STEP_SIZE];
 static double figures[2];
@@ -315,10 +320,113 @@ static void full_trackers(void)
     expect(state[2] == 0 && is_filled(book, 48, 0), "a refused add leaves state and book");
 }
 
-/* Any reading tests the form. So does a tidy, which leaves all where it is refused. */
+/* Places whose paths have so many steps, all of them (0,0). Bytes after the steps are not zeros. */
+static void put_list(const uint32_t steps[3])
+{
+    memset(list, 170, sizeof list);
+    for (size_t i = 0; i < 3; i++) {
+        put_word(list + i * TEAKPOOL_PLACE_SIZE, steps[i]);
+        memset(list + i * TEAKPOOL_PLACE_SIZE + 4, 0, (steps[i] < TEAKPOOL_MAX_STEPS ? steps[i] : TEAKPOOL_MAX_STEPS) * 8);
+    }
+}
+
+/* Adds the list to the tracker with its first bytes, and what it takes of it by single adds to a copy. */
+static void add_list(size_t book_length, size_t length, uint32_t number, uint32_t paths, const char *what)
+{
+    uint32_t taken = 77;
+    memcpy(single_state, state, sizeof state);
+    memcpy(single_book, book, sizeof book);
+    memcpy(single_queue, queue, sizeof queue);
+    expect_number(teakpool_add_paths(state, book, book_length, queue, sizeof queue, list, length, &taken), number, what);
+    expect(taken == paths, what);
+    for (size_t i = 0; i < paths; i++) {
+        const uint8_t *at = list + i * TEAKPOOL_PLACE_SIZE;
+        expect_number(teakpool_add_path(single_state, single_book, book_length, single_queue, sizeof single_queue, at + 4,
+                                        word_at(at) * TEAKPOOL_STEP_SIZE),
+                      TEAKPOOL_DONE, what);
+    }
+    expect(memcmp(single_state, state, sizeof state) == 0 && memcmp(single_book, book, sizeof book) == 0 &&
+               memcmp(single_queue, queue, sizeof queue) == 0,
+           what);
+}
+
+static void list_lengths(void)
+{
+    static const struct {
+        size_t length;
+        uint32_t steps[3], number, taken;
+        const char *what;
+    } rows[] = {
+        {0, {1, 1, 1}, TEAKPOOL_DONE, 0, "no places"},
+        {1, {1, 1, 1}, TEAKPOOL_PATH_LENGTH, 0, "a byte of a place"},
+        {12, {1, 1, 1}, TEAKPOOL_PATH_LENGTH, 0, "a place cut off after its only step"},
+        {515, {1, 1, 1}, TEAKPOOL_PATH_LENGTH, 0, "a byte of it too few"},
+        {516, {0, 1, 1}, TEAKPOOL_PATH_LENGTH, 0, "a path of no steps"},
+        {516, {1, 1, 1}, TEAKPOOL_DONE, 1, "a path of one step"},
+        {516, {TEAKPOOL_MAX_STEPS, 1, 1}, TEAKPOOL_DONE, 1, "the longest path"},
+        {516, {TEAKPOOL_MAX_STEPS + 1, 1, 1}, TEAKPOOL_PATH_LENGTH, 0, "a path past the longest"},
+        {516, {0x80000001u, 1, 1}, TEAKPOOL_PATH_LENGTH, 0, "the greatest bit in a length"},
+        {1032, {2, 1, 1}, TEAKPOOL_DONE, 2, "two paths"},
+        {1033, {2, 1, 1}, TEAKPOOL_PATH_LENGTH, 2, "a byte of a third place: the two before it stay in"},
+        {1547, {1, 0, 1}, TEAKPOOL_PATH_LENGTH, 1, "a path of no steps before a cut-off place"},
+        {1548, {2, 0, 1}, TEAKPOOL_PATH_LENGTH, 1, "a path of no steps between two: the third is not tried"},
+        {1548, {2, 1, 3}, TEAKPOOL_DONE, 3, "three paths"},
+    };
+    for EACH(i, rows) {
+        open_and_add();
+        put_list(rows[i].steps);
+        add_list(sizeof book, rows[i].length, rows[i].number, rows[i].taken, rows[i].what);
+    }
+}
+
+/* The first place that is refused decides, and in it the lowest number. */
+static void list_order(void)
+{
+    static const struct {
+        uint32_t accepted;
+        size_t entries;
+        uint32_t steps[3], number, taken;
+        const char *what;
+    } rows[] = {
+        {TEAKPOOL_MAX_PATHS_ACCEPTED - 2, ENTRIES, {1, 1, 1}, TEAKPOOL_PATHS_FULL, 2, "the last two paths, and one more"},
+        {TEAKPOOL_MAX_PATHS_ACCEPTED, ENTRIES, {0, 1, 1}, TEAKPOOL_PATH_LENGTH, 0, "10 before 11"},
+        {TEAKPOOL_MAX_PATHS_ACCEPTED, 3, {1, 1, 1}, TEAKPOOL_PATHS_FULL, 0, "11 before 12"},
+        {1, 4, {0, 2, 1}, TEAKPOOL_PATH_LENGTH, 0, "10 before 12"},
+        {1, 4, {1, 2, 1}, TEAKPOOL_BOOK_FULL, 1, "no room for the transition of the second path: the third is not tried"},
+        {1, 4, {1, 2, 0}, TEAKPOOL_BOOK_FULL, 1, "12 of a place before 10 of a later one"},
+        {1, 5, {1, 2, 0}, TEAKPOOL_PATH_LENGTH, 2, "with an entry more there is only that 10"},
+    };
+    for EACH(i, rows) {
+        open_and_add();
+        state[2] = rows[i].accepted;
+        put_list(rows[i].steps);
+        add_list(rows[i].entries * TEAKPOOL_ENTRY_SIZE, sizeof list, rows[i].number, rows[i].taken, rows[i].what);
+    }
+}
+
+/* A count at 2^30 does not stop a list, though it stops the second of single adds. */
+static void list_past_counts(void)
+{
+    static const uint32_t steps[3] = {1, 1, 1};
+    uint32_t taken = 77;
+    put_list(steps);
+    expect_number(teakpool_open(0, book, sizeof book, queue, 0, state), TEAKPOOL_DONE, "an opening with a window of 0");
+    expect_number(teakpool_add_path(state, book, sizeof book, queue, 0, list + 4, 8), TEAKPOOL_DONE, "a path");
+    put_word(book + 20, TEAKPOOL_MAX_COUNT);
+    expect_number(teakpool_add_paths(state, book, sizeof book, queue, 0, list, sizeof list, &taken), TEAKPOOL_DONE,
+                  "counts past 2^30");
+    expect(taken == 3 && state[2] == 4 && word_at(book + 20) == TEAKPOOL_MAX_COUNT + 3, "all three are counted");
+    expect_number(teakpool_add_paths(state, book, sizeof book, queue, 0, list, 0, &taken), TEAKPOOL_FORM, "the next call gets 9");
+    expect(taken == 0 && state[2] == 4, "and takes nothing");
+    put_word(book + 20, TEAKPOOL_MAX_COUNT);
+    expect_number(teakpool_add_path(state, book, sizeof book, queue, 0, list + 4, 8), TEAKPOOL_DONE, "a single add past 2^30");
+    expect_number(teakpool_add_path(state, book, sizeof book, queue, 0, list + 4, 8), TEAKPOOL_FORM, "a second one");
+}
+
+/* Any reading tests the form. So does a tidy, which leaves all where it is refused, and so do lists of paths, of none too. */
 static uint32_t read_form(size_t book_length, size_t queue_length)
 {
-    uint32_t own[3];
+    uint32_t own[3], taken = 77;
     uint8_t own_book[sizeof book];
     memcpy(own, state, sizeof own);
     memcpy(own_book, book, sizeof own_book);
@@ -328,7 +436,16 @@ static uint32_t read_form(size_t book_length, size_t queue_length)
     expect(tidied == code, "a tidy refuses what a reading refuses by the form");
     if (tidied != TEAKPOOL_DONE) {
         expect(memcmp(own, state, sizeof own) == 0 && memcmp(own_book, book, sizeof own_book) == 0, "a tidy that is refused");
+        memcpy(single_queue, queue, sizeof queue);
+        expect(teakpool_add_paths(own, own_book, book_length, single_queue, queue_length, one_path, sizeof one_path, &taken) == code,
+               "a list refuses what a reading refuses by the form");
+        expect(taken == 0 && memcmp(own, state, sizeof own) == 0 && memcmp(own_book, book, sizeof own_book) == 0 &&
+                   memcmp(single_queue, queue, sizeof queue) == 0,
+               "a list that is refused by the form");
     }
+    taken = 77;
+    expect(teakpool_add_paths(state, book, book_length, queue, queue_length, one_path, 0, &taken) == code && taken == 0,
+           "so does a list of no paths");
     return code;
 }
 
@@ -641,6 +758,9 @@ int main(void)
     openings();
     path_lengths();
     full_trackers();
+    list_lengths();
+    list_order();
+    list_past_counts();
     form_of_state();
     form_of_bytes();
     short_outputs();

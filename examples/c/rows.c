@@ -178,6 +178,26 @@ static void read_probabilities(void)
     expect(code == TEAKPOOL_NONE && places == 2, "the evidence of (0,9), listed with a total of 0 or not listed: none");
 }
 
+/* The two paths once more in a fresh tracker, by one call: the same bytes. */
+static void add_both(const uint8_t *path)
+{
+    uint8_t places[2 * TEAKPOOL_PLACE_SIZE], own_book[sizeof book], own_queue[sizeof queue];
+    uint32_t own[3], taken = 9;
+    memset(places, 170, sizeof places);
+    put_word(places, 2);
+    memcpy(places + 4, path, 2 * TEAKPOOL_STEP_SIZE);
+    put_word(places + TEAKPOOL_PLACE_SIZE, 1);
+    memcpy(places + TEAKPOOL_PLACE_SIZE + 4, path, TEAKPOOL_STEP_SIZE);
+    expect(teakpool_open(1, own_book, sizeof own_book, own_queue, sizeof own_queue, own) == TEAKPOOL_DONE, "one more opening");
+    expect(teakpool_add_paths(own, own_book, sizeof own_book, own_queue, sizeof own_queue, places, sizeof places, &taken) ==
+                   TEAKPOOL_DONE &&
+               taken == 2,
+           "both paths by one call");
+    expect(memcmp(own, state, sizeof own) == 0 && memcmp(own_book, book, sizeof book) == 0 &&
+               memcmp(own_queue, queue, sizeof queue) == 0,
+           "state, book and queue as by two adds");
+}
+
 /* What is read after the second path, and once more when the book is tidied: but for the nodes skipped it is the same. */
 static void read_second(uint32_t skipped)
 {
@@ -294,6 +314,7 @@ int main(void)
     read_statistics(6.0, 1);
     add(path, TEAKPOOL_STEP_SIZE, 3, 2);
     read_second(1);
+    add_both(path);
     tidy();
     read_second(0);
     small_books(path, sizeof path);

@@ -1,6 +1,6 @@
 # Reads `objdump -dr` of the archive and prints, for each exported function, the bytes of stack that it can take at most: every push
 # and every `sub` on the stack pointer in a function counts, whichever way control goes, with the return address of each call, along
-# the deepest chain of calls. The last function of a chain may use the 128 bytes below its stack pointer as well (the red zone of the
+# the deepest chain of calls. A large frame is taken in a loop, and counts as a whole. The last function of a chain may use the 128 bytes below its stack pointer as well (the red zone of the
 # x86-64 calling convention), so they count whether it does or not. What the C library takes is not in it.
 function number(digits,    i, value) {
     value = 0
@@ -36,6 +36,33 @@ function deepest(name, chain,    callees, i, n, most, below) {
 
 BEGIN {
     RED_ZONE = 128
+    PAGE = 4096
+}
+
+# The last five instructions, the one at hand being the first, and where they stand.
+{
+    for (i = 4; i > 0; i--) {
+        code[i] = code[i - 1]
+        at[i] = at[i - 1]
+    }
+    code[0] = $2 " " $3
+    at[0] = $1
+}
+
+# A frame of many pages is taken a page at a time, each touched, down to a mark that lies so many pages below. The `sub` of one page is
+# counted already.
+code[0] == "cmp %r11,%rsp" && code[1] == "movq $0x0,(%rsp)" && code[2] == "sub $0x1000,%rsp" && code[4] == "mov %rsp,%r11" &&
+    code[3] ~ /^sub \$0x[0-9a-f]*[1-9a-f][0-9a-f]*000,%r11$/ {
+    own[name] += number(substr(code[3], 8, length(code[3]) - 12)) - PAGE
+    page = at[2]
+    next
+}
+
+page != "" {
+    if (code[0] ":" != "jne " page) {
+        refuse($0)
+    }
+    page = ""
 }
 
 # A call that names its function has a relocation on the next line; one without goes back into its own function.

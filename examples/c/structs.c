@@ -63,7 +63,10 @@ static void open_and_add(uint32_t point)
     struct teakpool_path end = teakpool_make_path(path_bytes + 2 * TEAKPOOL_STEP_SIZE, TEAKPOOL_STEP_SIZE);
     tracker = teakpool_make_tracker(teakpool_make_book(book_bytes, sizeof book_bytes),
                                     teakpool_make_queue(queue_bytes, sizeof queue_bytes));
+    uint32_t taken = 77;
     expect(teakpool_tracker_add_path(&tracker, path) == TEAKPOOL_FORM, "an add to a tracker that is not open");
+    expect(teakpool_tracker_add_paths(&tracker, teakpool_make_places(NULL, 0), &taken) == TEAKPOOL_FORM && taken == 0,
+           "a list of none to a tracker that is not open");
     expect(teakpool_tracker_tidy(&tracker) == TEAKPOOL_FORM, "a tidy of a tracker that is not open");
     expect(teakpool_tracker_open(&tracker, 3) == TEAKPOOL_DONE, "an opening");
     expect(teakpool_tracker_add_path(&tracker, path) == TEAKPOOL_DONE, "an add");
@@ -163,6 +166,36 @@ static void named(uint32_t number, const char *what)
     expect(now.node.scale == 1 && now.node.point == 7 && same(now.maximum, 0.0) && now.skipped == 0, "the node in statistics");
 }
 
+/* The training's two paths: that by (0,9), and (1,7) alone. */
+static void added_together(void)
+{
+    struct teakpool_places places = teakpool_make_places(sequence_bytes, sizeof sequence_bytes), rest;
+    uint8_t plain_book[sizeof book_bytes], plain_queue[sizeof queue_bytes];
+    uint32_t plain_state[3], taken = 77, plain_taken = 78;
+    open_and_add(9);
+    memcpy(plain_book, book_bytes, sizeof plain_book);
+    memcpy(plain_queue, queue_bytes, sizeof plain_queue);
+    memcpy(plain_state, tracker.state, sizeof plain_state);
+    expect(teakpool_tracker_add_paths(&tracker, places, &taken) == TEAKPOOL_DONE && taken == 2, "a list of two paths");
+    expect(teakpool_add_paths(plain_state, plain_book, sizeof plain_book, plain_queue, sizeof plain_queue, sequence_bytes,
+                              sizeof sequence_bytes, &plain_taken) == TEAKPOOL_DONE &&
+               plain_taken == 2,
+           "the same, plain");
+    expect(tracker.state[0] == 3 && tracker.state[1] == 5 && tracker.state[2] == 5, "the state after a list");
+    expect(memcmp(plain_state, tracker.state, sizeof plain_state) == 0 && memcmp(plain_book, book_bytes, sizeof plain_book) == 0 &&
+               memcmp(plain_queue, queue_bytes, sizeof plain_queue) == 0,
+           "the state, the book and the queue");
+    places.length--;
+    expect(teakpool_tracker_add_paths(&tracker, places, &taken) == TEAKPOOL_PATH_LENGTH && taken == 1, "the second place cut off");
+    expect(tracker.state[2] == 6, "the first is taken");
+    rest = teakpool_places_from(places, taken);
+    expect(rest.at == sequence_bytes + TEAKPOOL_PLACE_SIZE && rest.length == TEAKPOOL_PLACE_SIZE - 1, "the refused place");
+    rest = teakpool_places_from(places, taken + 1);
+    expect(rest.at == sequence_bytes + places.length && rest.length == 0, "nothing after it");
+    expect(teakpool_places_from(places, 0).at == places.at && teakpool_places_from(places, 0).length == places.length, "all places");
+    expect(teakpool_places_from(places, SIZE_MAX).length == 0, "no places from the greatest number on");
+}
+
 /* Of the three paths the first leaves the window, and nothing but (-1,3) is left in it. */
 static void tidied(void)
 {
@@ -245,6 +278,7 @@ static void nothing_lent(void)
     struct teakpool_list list = {9, 9, {0, 0}};
     struct teakpool_usual usual;
     struct teakpool_child_found found = {9, 9};
+    uint32_t taken = 77;
     expect(teakpool_priors_check(no_priors) == TEAKPOOL_DONE, "no priors");
     expect(teakpool_priors_child(no_priors, node, node, &found) == TEAKPOOL_NONE && found.count == 9 && found.read == 0,
            "no child in no priors");
@@ -257,6 +291,7 @@ static void nothing_lent(void)
     expect(teakpool_tracker_open(&tracker, 0) == TEAKPOOL_DONE, "no queue");
     expect(teakpool_tracker_add_path(&tracker, teakpool_make_path(NULL, 0)) == TEAKPOOL_PATH_LENGTH, "no path");
     expect(teakpool_tracker_add_path(&tracker, path_by(9)) == TEAKPOOL_DONE, "an add without a queue");
+    expect(teakpool_tracker_add_paths(&tracker, teakpool_make_places(NULL, 0), &taken) == TEAKPOOL_DONE && taken == 0, "no places");
     expect(teakpool_tracker_tidy(&tracker) == TEAKPOOL_DONE && tracker.state[1] == 5, "a tidy without a queue: nothing leaves");
     expect(teakpool_tracker_all_node_kl(&tracker, no_priors, tables, no_output, &list) == TEAKPOOL_DONE, "no output");
     expect(list.places == 0 && list.skipped == 3, "every node is skipped");
@@ -275,6 +310,7 @@ static void something_missing(void)
     double figures[2], values[TEAKPOOL_KNOT_VALUES];
     struct teakpool_vector vector;
     struct teakpool_child_found found = {9, 8};
+    uint32_t taken = 77;
     struct teakpool_book no_book = teakpool_make_book(NULL, sizeof book_bytes);
     struct teakpool_queue queue = teakpool_make_queue(queue_bytes, sizeof queue_bytes);
     struct teakpool_baseline baseline = teakpool_make_baseline(knots, values, 1);
@@ -306,6 +342,9 @@ static void something_missing(void)
     expect(teakpool_tracker_open(&tracker, 0) == TEAKPOOL_DONE, "a missing queue that is not needed");
     expect(teakpool_tracker_add_path(&tracker, teakpool_make_path(NULL, sizeof path_bytes)) == TEAKPOOL_PATH_LENGTH,
            "a missing path");
+    expect(teakpool_tracker_add_paths(&tracker, teakpool_make_places(NULL, sizeof sequence_bytes), &taken) == TEAKPOOL_PATH_LENGTH &&
+               taken == 0,
+           "missing places");
     open_and_add(9);
     expect(teakpool_tracker_prob_vector(&tracker, priors, node, teakpool_make_output(NULL, figures, 2), &vector) ==
                TEAKPOOL_OUTPUT_SHORT,
@@ -322,6 +361,7 @@ static void something_missing(void)
     expect(teakpool_baseline_train(&baseline, priors, tables, sequences, tracker.book) == TEAKPOOL_OUTPUT_SHORT, "missing values");
     expect(teakpool_make_g(NULL, 2).length == 1 && teakpool_make_d(NULL, 2).length == 1, "the length of a missing table");
     expect(no_book.length == 1 && teakpool_make_path(NULL, 8).length == 1 && none.length == 1, "of a book, a path and sequences");
+    expect(teakpool_make_places(NULL, TEAKPOOL_PLACE_SIZE).length == 1, "of places");
     expect(teakpool_make_queue(NULL, sizeof queue_bytes).length == 0, "of a queue");
     expect(teakpool_make_output(NULL, figures, 2).places == 0 && baseline.room == 0, "no places, and no room");
 }
@@ -349,6 +389,7 @@ int main(void)
     lend(LENGTH - 1);
     open_and_add(8);
     named(TEAKPOOL_MISSING_CHILD, "a child that the prior does not have");
+    added_together();
     tidied();
     trials();
     baselines();

@@ -42,7 +42,7 @@ constants_hold() { # HEADER
 }
 in_sources() { # NAME
     sed -n "s/^\(pub \)\{0,1\}const $1: u[0-9a-z]* = \([0-9]*\);\$/\2/p" \
-        crates/{priors,book,divergence,baseline,exports}/src/*.rt | sort -u
+        crates/{priors,entries,book,divergence,baseline,exports}/src/*.rt | sort -u
 }
 constants_hold include/teakpool.h
 for change in 's/MAX_WINDOW 1024u/MAX_WINDOW 1025u/' 's/KNOT_VALUES 10u/KNOT_VALUES 11u/' '/MAX_CHAIN/d' 's/_LINKS = 5/_LINKS = 6/' \

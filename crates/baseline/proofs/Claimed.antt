@@ -12,13 +12,14 @@ use Rattle.book.specs.Path.{pathOf}
 use Rattle.book.specs.Calls.{unlessRefused}
 use Rattle.book.specs.Figures.{All}
 use Rattle.book.specs.Claims.{Recount, since, openRefusal, addRefusal, restarted, joined, recountStep, runs}
+use Rattle.book.specs.Batches.{pathIn}
 use Rattle.divergence.specs.declared.statistics.KLDivergenceStats.{KLDivergenceStats}
 use Rattle.divergence.specs.Readings.{Reading, refused, nothing, answered, mapped, Statistics}
 use Rattle.divergence.specs.Asked.{statsAsked}
 use Rattle.divergence.specs.Claims.{Call, read, klDivStats, stats, reading, recountSeen, recounted, InBytes}
 use Rattle.divergence.proofs.Claimed as Divergence
-use Rattle.baseline.specs.Training.{Lent, Input, Until, andThen, unlessStopped, recorded, pathIn, recountStats, recordsFrom, sequenceRecords}
-use Rattle.baseline.proofs.HoldLaws.{path-bytes}
+use Rattle.baseline.specs.Training.{Lent, Input, Until, andThen, unlessStopped, recorded, recountStats, recordsFrom, sequenceRecords}
+use Rattle.book.proofs.BatchLaws.{path-bytes}
 use Rattle.baseline.specs.Claims.{callsFrom, sequenceCalls, andRecord, recordsIn, Claim}
 
 -- ---- every call is lent bytes

@@ -9,9 +9,9 @@ use lib.ListN.{length}
 use lib.Ieee.{Float, lt}
 use Rattle.priors.specs.Rows.{Row}
 use Rattle.priors.specs.Priors.{priorOf}
-use Rattle.book.specs.Keys.{kindOf, nodeOf}
-use Rattle.book.specs.Entries.{rows}
-use Rattle.book.proofs.EntryLaws.{length-rows}
+use Rattle.entries.specs.Keys.{kindOf, nodeOf}
+use Rattle.entries.specs.Entries.{rows}
+use Rattle.entries.proofs.EntryLaws.{length-rows}
 use Rattle.divergence.specs.declared.divergences.NodeDivergence.{NodeDivergence}
 use Rattle.divergence.specs.declared.divergences.NodeDivergence.the-variants.{Value, NoPrior, MissingChild, PastTable}
 use Rattle.divergence.specs.declared.statistics.KLDivergenceStats.{KLDivergenceStats}

@@ -6,27 +6,28 @@ use native.Mathlib.Numerals.{add-one}
 use native.Mathlib.Omega.{arith}
 use mathlib.Core.List.{List, [], _∷_, _++_, flatMap}
 use lib.Dec.{leb}
-use lib.ListN.{length, take, drop, length-append}
+use lib.ListN.{length, length-append}
 use lib.Ieee.{Float}
 use borrow.Author.Tests.{lt-ltb, leb-true}
-use Rattle.priors.specs.Word.{word}
 use Rattle.priors.specs.Rows.{Row, keys, Ascends}
 use Rattle.priors.proofs.Ranks.{Bytes}
-use Rattle.book.specs.Limits.{maxCount}
-use Rattle.book.specs.Entries.{rows, Rewritten}
+use Rattle.entries.specs.Limits.{maxCount}
+use Rattle.entries.specs.Entries.{rows, Rewritten, CountsUpTo}
 use Rattle.book.specs.Path.{Steps, pathOf, wholePath, listedKeys, countedKeys}
 use Rattle.book.specs.Form.{capacity, bookFits, formed}
-use Rattle.book.specs.Changes.{CountsUpTo, EndingsListed, changeAll, touchAll, bumpAll, addRows}
+use Rattle.book.specs.Changes.{EndingsListed, changeAll, touchAll, bumpAll, addRows}
 use Rattle.book.specs.Recount.{enterAll, listing, rowsOf, windowPart, sequenceLength}
 use Rattle.book.specs.Figures.{All}
 use Rattle.book.specs.Claims.{openRefusal, addRefusal, joined}
+use Rattle.book.specs.Batches.{pathIn}
 use Rattle.book.proofs.Passes.{leavingPath}
-use Rattle.book.proofs.Window.{window-drop, all-drop}
-use Rattle.book.proofs.EntryLaws.{length-rows}
+use Rattle.book.proofs.Window.{window-drop}
+use Rattle.entries.proofs.EntryLaws.{length-rows}
 use Rattle.book.proofs.Image.{ascends-rows}
 use Rattle.book.proofs.Step.{rows-step}
 use Rattle.book.proofs.BookImage.{length-image, length-listing, formed-image}
 use Rattle.book.proofs.FormLaws.{formed-counts}
+use Rattle.book.proofs.BatchLaws.{path-bytes}
 use Rattle.book.proofs.EndingLaws.{formed-endings}
 use Rattle.book.proofs.RefusalLaws.{book-fits, path-fits}
 use Rattle.book.proofs.Kept.{Sizes, Kept, open-sizes, add-taken, kept-joined}
@@ -38,7 +39,7 @@ use Rattle.divergence.specs.Statistics.{walk}
 use Rattle.divergence.specs.Readings.{statsReadingOf, statsReading}
 use Rattle.divergence.proofs.RecountNodeLaws.{listed-nodes}
 use Rattle.divergence.specs.declared.statistics.KLDivergenceStats.{KLDivergenceStats}
-use Rattle.baseline.specs.Training.{Lent, Until, pathIn, recorded, recountStats}
+use Rattle.baseline.specs.Training.{Lent, Until, recorded, recountStats}
 use Rattle.baseline.specs.Courses.{Accepted, pathsOf, recountOf, Holds, pathNumber, sampled, bookStats, onePath}
 use Rattle.baseline.proofs.CourseLaws.{added-path}
 
@@ -47,23 +48,6 @@ use Rattle.baseline.proofs.CourseLaws.{added-path}
 pub bytes-all : (s : List ℕ) → Bytes s → All (λ b. b < 256) s
 bytes-all [] bytes = tt
 bytes-all (b ∷ s) bytes = (omega (arith, bytes 0), bytes-all s (λ i. bytes (suc i)))
-
-all-take : {X : Type 0} (P : X → Type 0) (n : ℕ) (s : List X) → All P s → All P (take n s)
-all-take P zero s h = tt
-all-take P (suc n) [] h = tt
-all-take P (suc n) (a ∷ s) h = (h .0, all-take P n s (h .1))
-
--- a path is bytes as the sequences are
-pub path-bytes : (sequences : List ℕ) (k : ℕ) → All (λ b. b < 256) sequences → All (λ b. b < 256) (pathIn sequences k)
-unfolding pathIn
-path-bytes sequences k h = go (leb (word sequences (516 * k)) 64)
-  where
-    steps : List ℕ
-    steps = take (8 * word sequences (516 * k)) (drop (516 * k + 4) sequences)
-
-    go : (b : Bool) → All (λ b. b < 256) (cond b steps [])
-    go true = all-take (λ b. b < 256) (8 * word sequences (516 * k)) (drop (516 * k + 4) sequences) (all-drop (λ b. b < 256) (516 * k + 4) sequences h)
-    go false = tt
 
 -- ---- what is held
 

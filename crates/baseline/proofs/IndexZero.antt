@@ -11,12 +11,13 @@ use lib.IntN.{ℤ}
 use Rattle.priors.specs.Priors.{lentPriors, layerOf, priorsRefusal}
 use Rattle.book.specs.Path.{pathOf}
 use Rattle.book.specs.Claims.{Recount, since, restarted, joined, addRefusal}
+use Rattle.book.specs.Batches.{pathIn}
 use Rattle.divergence.specs.declared.statistics.KLDivergenceStats.{KLDivergenceStats}
 use Rattle.divergence.specs.Checks.{orElse}
 use Rattle.divergence.specs.Asked.{lentOutput}
 use Rattle.divergence.specs.Claims.{recountSeen}
 use Rattle.divergence.proofs.IndexZero.{same-tables, index-zero-unread}
-use Rattle.baseline.specs.Training.{Lent, Input, lentOf, inputOf, knotRoom, sizesRefusal, trainRefusal, Until, andThen, pathIn, recorded, recountStats, unlessStopped, recordsFrom, sequenceRecords, allRecords, course, knotsOf, trainedReading, bookLeft, knotsLeft, valuesLeft, TrainAnswer, trainAsked}
+use Rattle.baseline.specs.Training.{Lent, Input, lentOf, inputOf, knotRoom, sizesRefusal, trainRefusal, Until, andThen, recorded, recountStats, unlessStopped, recordsFrom, sequenceRecords, allRecords, course, knotsOf, trainedReading, bookLeft, knotsLeft, valuesLeft, TrainAnswer, trainAsked}
 use Rattle.baseline.specs.Claims.{IndexZeroUnread}
 
 module _ (g g′ d d′ : Float) (G D : List Float) (nodes children : List ℕ) (floor : ℤ) (sequences : List ℕ) (s n rate : ℕ) where

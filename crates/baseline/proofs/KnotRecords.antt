@@ -15,12 +15,13 @@ use Rattle.priors.specs.Priors.{layerOf, priorsRefusal}
 use Rattle.book.specs.Path.{Steps, pathOf}
 use Rattle.book.specs.Recount.{windowPart, sequenceLength}
 use Rattle.book.specs.Claims.{Recount, since, addRefusal, restarted, joined}
+use Rattle.book.specs.Batches.{pathIn}
 use Rattle.divergence.specs.declared.statistics.KLDivergenceStats.{KLDivergenceStats}
 use Rattle.divergence.specs.Numbers.{tiny64}
 use Rattle.divergence.specs.Statistics.{Place, Walk, stopped as ended, walked, walk, noStats, counted, noted, statsOver}
 use Rattle.divergence.specs.Readings.{unless, statsReadingOf, statsReading}
 use Rattle.divergence.specs.RecountNodes.{recountNodes}
-use Rattle.baseline.specs.Training.{Lent, Until, stopped, reached, andThen, unlessStopped, recorded, pathIn, recountStats, recordsFrom, sequenceRecords, knotCount, knotLengths}
+use Rattle.baseline.specs.Training.{Lent, Until, stopped, reached, andThen, unlessStopped, recorded, recountStats, recordsFrom, sequenceRecords, knotCount, knotLengths}
 use Rattle.baseline.specs.Claims.{RecordForEachKnot}
 use Rattle.baseline.proofs.SampleLaws.{knotsBefore, knot-of, count-is, grows}
 

@@ -18,17 +18,17 @@ use Rattle.priors.specs.Priors.{LentPriors, lentPriors, layerOf, Counts, priors
 use Rattle.priors.specs.Priors as Priors
 use Rattle.priors.specs.Children as Children
 use Rattle.priors.specs.Children.{ChildLook, childAsked}
-use Rattle.book.specs.Keys.{keyOf, endKey, childKey, nodeOf, kindOf, childOf}
-use Rattle.book.specs.Entries as Entries
+use Rattle.entries.specs.Keys.{keyOf, endKey, childKey, nodeOf, kindOf, childOf}
+use Rattle.entries.specs.Entries as Entries
 use Rattle.book.specs.Path.{stepsOf, wholePath, listedKeys, countedKeys}
 use Rattle.book.specs.Form as Form
 use Rattle.book.specs.Changes.{changeAll, addRows}
 use Rattle.book.specs.Calls as Calls
-use Rattle.book.specs.Calls.{zeros, fresh, addNumber}
+use Rattle.book.specs.Calls.{Machine, zeros, fresh, addNumber}
 use Rattle.book.specs.Figures as Paths
 use Rattle.book.specs.Recount as Recount
 use Rattle.book.specs.Claims as Claims
-use Rattle.book.specs.Claims.{opening, add as adding, Machine, bookStep, runs}
+use Rattle.book.specs.Claims.{opening, add as adding, bookStep, runs}
 use Rattle.divergence.specs.Numbers.{fdiv, flt, zero64, minusZero64}
 use Rattle.divergence.specs.Nodes.{spread, listedNodes, evidenceOf}
 use Rattle.divergence.specs.RecountNodes as RecountNodes
@@ -44,6 +44,7 @@ use Rattle.divergence.specs.declared.statistics.KLDivergenceStats.{KLDivergence
 use Rattle.baseline.specs.declared.figures.MeanVar.{MeanVar}
 use Rattle.baseline.specs.declared.figures.KLDivergenceBaselineStats.{KLDivergenceBaselineStats}
 use Rattle.baseline.specs.Sums.{added, sumsAt, putSums}
+use Rattle.book.specs.Batches as Batches
 use Rattle.baseline.specs.Training as Training
 use Rattle.baseline.specs.Training.{TrainAnswer, inputOf, addAll, started, trainAsked}
 use Rattle.baseline.specs.Figures.{toMeanVar, interpolated}
@@ -272,5 +273,5 @@ Rows =
     × (baselineReading [] [] 1 0 ≡ alike zero64 zero64)
 
 pub rows-hold : Rows
-unfolding le word store lift rank addressOf change countOf Tables.entriesFit Tables.entryFits Tables.lengthsFit Tables.tablesRefusal Priors.ascends Priors.ascendsAfter Priors.chain Priors.chainAscends Priors.chainFits Priors.chainOf Priors.clearBefore Priors.countFits Priors.countSum Priors.findRecord Priors.firstLinkFits Priors.foundBy Priors.nextLinkFits Priors.onePoint Priors.pointsDiffer Priors.priorOf Priors.priorsRefusal Priors.recordAt Priors.records Priors.total Priors.totalFits Priors.wholeRecords Children.belowIn Children.readsOf keyOf endKey childKey nodeOf kindOf childOf Entries.bytesOf Entries.rowAt Entries.keyAt Entries.rowBytes Entries.rows stepsOf wholePath listedKeys countedKeys Form.bookFits Form.follows Form.formed Form.formedAfter Form.inForm Form.lengthsFit Form.plain Form.queueFits Form.stateFits changeAll addRows Calls.addBook Calls.addNumber Calls.addQueue Calls.addState Calls.bookAfter Calls.leaving Calls.openBook Calls.openNumber Calls.openQueue Calls.openState Calls.placeBytes Calls.queueWith Calls.rowsAfter Calls.stateAfter Paths.total Paths.transitions Paths.endings Recount.windowPart Recount.sequenceLength Recount.enter Recount.enterAll Recount.listing Claims.addRefusal bookStep runs spread listedNodes evidenceOf RecountNodes.nodesListed RecountNodes.followers RecountNodes.childrenListed RecountNodes.nodeCounted RecountNodes.recountNodes Divergence.childTerms Divergence.closed Divergence.divergence Divergence.endingTerm Divergence.lacksChild Divergence.noLess Divergence.nodeDivergence Divergence.term Walks.counted Walks.noted Walks.statsOver Walks.walk Probability.evidenceProbVector Probability.posterior Probability.probVector Probability.withEvidence Probability.withTotal Readings.filledAddresses Readings.filledFigures Readings.withPrior Readings.klReading Readings.allReading Readings.statsReading Readings.probReading Readings.evidenceReading trainAsked Training.trainRefusal Training.sizesRefusal Training.inputFits Training.pathIn Training.recountStats Training.recordsFrom Training.sequenceRecords Training.allRecords Training.addRecords addAll baselineReading statsRefusal baselineFits pastOneKnot rising risesAt allBelow figuresAt figuresAfter notAbove knotFigures lineFigures toMeanVar interpolated sumsAt putSums added flatMap add sub mul div ofInt ofBits
+unfolding le word store lift rank addressOf change countOf Tables.entriesFit Tables.entryFits Tables.lengthsFit Tables.tablesRefusal Priors.ascends Priors.ascendsAfter Priors.chain Priors.chainAscends Priors.chainFits Priors.chainOf Priors.clearBefore Priors.countFits Priors.countSum Priors.findRecord Priors.firstLinkFits Priors.foundBy Priors.nextLinkFits Priors.onePoint Priors.pointsDiffer Priors.priorOf Priors.priorsRefusal Priors.recordAt Priors.records Priors.total Priors.totalFits Priors.wholeRecords Children.belowIn Children.readsOf keyOf endKey childKey nodeOf kindOf childOf Entries.bytesOf Entries.rowAt Entries.keyAt Entries.rowBytes Entries.rows stepsOf wholePath listedKeys countedKeys Form.bookFits Form.follows Form.formed Form.formedAfter Form.inForm Form.lengthsFit Form.plain Form.queueFits Form.stateFits changeAll addRows Calls.addBook Calls.addNumber Calls.addQueue Calls.addState Calls.bookAfter Calls.leaving Calls.openBook Calls.openNumber Calls.openQueue Calls.openState Calls.placeBytes Calls.queueWith Calls.rowsAfter Calls.stateAfter Paths.total Paths.transitions Paths.endings Recount.windowPart Recount.sequenceLength Recount.enter Recount.enterAll Recount.listing Claims.addRefusal bookStep runs spread listedNodes evidenceOf RecountNodes.nodesListed RecountNodes.followers RecountNodes.childrenListed RecountNodes.nodeCounted RecountNodes.recountNodes Divergence.childTerms Divergence.closed Divergence.divergence Divergence.endingTerm Divergence.lacksChild Divergence.noLess Divergence.nodeDivergence Divergence.term Walks.counted Walks.noted Walks.statsOver Walks.walk Probability.evidenceProbVector Probability.posterior Probability.probVector Probability.withEvidence Probability.withTotal Readings.filledAddresses Readings.filledFigures Readings.withPrior Readings.klReading Readings.allReading Readings.statsReading Readings.probReading Readings.evidenceReading trainAsked Training.trainRefusal Training.sizesRefusal Training.inputFits Batches.pathIn Training.recountStats Training.recordsFrom Training.sequenceRecords Training.allRecords Training.addRecords addAll baselineReading statsRefusal baselineFits pastOneKnot rising risesAt allBelow figuresAt figuresAfter notAbove knotFigures lineFigures toMeanVar interpolated sumsAt putSums added flatMap add sub mul div ofInt ofBits
 rows-hold = (refl, refl, refl, refl, refl, refl, refl, refl, refl, refl, refl, refl, refl, refl, refl, refl, refl, refl, refl, refl, refl, refl, refl, refl, refl, refl, refl, refl, refl, refl, refl, refl, refl, refl, refl, refl, refl, refl, refl, refl)

@@ -13,12 +13,14 @@ use lib.IntN.{ℤ}
 use Rattle.priors.specs.Tables.{lentTables}
 use Rattle.priors.specs.Priors.{lentPriors}
 use Rattle.book.specs.Figures.{All}
-use Rattle.book.specs.Claims.{opening, add, Machine, openRefusal, runs}
+use Rattle.book.specs.Calls.{Machine}
+use Rattle.book.specs.Claims.{opening, add, openRefusal, runs}
+use Rattle.book.specs.Batches.{pathIn}
 use Rattle.divergence.specs.declared.statistics.KLDivergenceStats.{KLDivergenceStats}
 use Rattle.divergence.specs.Readings.{Reading, refused, nothing, answered}
 use Rattle.divergence.specs.Corollaries.{ZeroUnread}
 use Rattle.divergence.specs.Claims.{Call, change, read, klDivStats, Result, vector, kl, allKl, stats, Answer, changed, told, step}
-use Rattle.baseline.specs.Training.{Lent, Input, inputOf, Until, stopped, reached, andThen, unlessStopped, pathIn, sequenceRecords, knotLengths, knotsOf, trainAsked}
+use Rattle.baseline.specs.Training.{Lent, Input, inputOf, Until, stopped, reached, andThen, unlessStopped, sequenceRecords, knotLengths, knotsOf, trainAsked}
 
 -- m paths of a sequence, the first of which has the number i and lies in the place numbered first + i: each is added, and where i mod rate is 0 the statistics are read
 unfoldable pub callsFrom : Lent → ℕ → ℕ → ℕ → List Call

@@ -15,19 +15,20 @@ use Rattle.priors.specs.Rows.{Row}
 use Rattle.priors.specs.Refusals.{numberOf, namedNode}
 use Rattle.priors.specs.Tables.{tablesRefusal}
 use Rattle.priors.specs.Priors.{layerOf, priorsRefusal}
-use Rattle.book.specs.Limits.{entrySize}
-use Rattle.book.specs.Entries.{rows}
+use Rattle.entries.specs.Limits.{entrySize}
+use Rattle.entries.specs.Entries.{rows}
 use Rattle.book.specs.Path.{Steps, pathOf}
 use Rattle.book.specs.Form.{bookFits}
 use Rattle.book.specs.Recount.{rowsOf}
 use Rattle.book.specs.Figures.{AllWhole, AllRanks}
 use Rattle.book.specs.Claims.{Recount, addRefusal}
+use Rattle.book.specs.Batches.{pathIn}
 use Rattle.divergence.specs.Nodes.{listedNodes}
 use Rattle.divergence.specs.Statistics.{walk}
 use Rattle.divergence.specs.Readings.{statsReadingOf}
 use Rattle.divergence.specs.declared.statistics.KLDivergenceStats.{KLDivergenceStats}
 use Rattle.baseline.specs.Sums.{added, sumsAt, putSums}
-use Rattle.baseline.specs.Training.{Lent, Until, stopped, reached, pathIn, recorded, recountStats, unlessStopped, addRecords, addAll}
+use Rattle.baseline.specs.Training.{Lent, Until, stopped, reached, recorded, recountStats, unlessStopped, addRecords, addAll}
 use Rattle.baseline.specs.declared.training.Entries.{Entries}
 use Rattle.baseline.specs.declared.training.Entries.the-variants.{Used, Stopped}
 

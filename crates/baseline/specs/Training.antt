@@ -5,20 +5,20 @@ use mathlib.Core.Bool.{Bool, cond, _&&_}
 use mathlib.Core.List.{List, [], _∷_, _++_}
 use mathlib.Core.Option.{Option, none}
 use lib.Dec.{eqb, leb}
-use lib.ListN.{length, take, drop, replicate}
+use lib.ListN.{length, drop, replicate}
 use lib.Ieee.{Float}
 use lib.IntN.{ℤ}
-use Rattle.priors.specs.Word.{word}
 use Rattle.priors.specs.declared.addresses.Address.{Address}
 use Rattle.priors.specs.Below.{listOf}
 use Rattle.priors.specs.Rules.{rule, firstBroken}
 use Rattle.priors.specs.Refusals.{numberOf, namedNode}
 use Rattle.priors.specs.Tables.{lentTables, tablesRefusal}
 use Rattle.priors.specs.Priors.{lentPriors, layerOf, priorsRefusal}
-use Rattle.book.specs.Limits.{maxSteps, stepSize, placeSize}
+use Rattle.entries.specs.Limits.{placeSize}
 use Rattle.book.specs.Path.{pathOf}
 use Rattle.book.specs.Form.{bookFits}
 use Rattle.book.specs.Calls.{zeros}
+use Rattle.book.specs.Batches.{pathIn}
 use Rattle.book.specs.Claims.{Recount, since, restarted, joined, addRefusal}
 use Rattle.divergence.specs.declared.statistics.KLDivergenceStats.{KLDivergenceStats}
 use Rattle.divergence.specs.Numbers.{zero64}
@@ -99,12 +99,6 @@ abbrev pub andThen : {X : Type 0} → Until X → Until (List X) → Until (List
 andThen (stopped n node) rest = stopped n node
 andThen (reached x) (stopped n node) = stopped n node
 andThen (reached x) (reached xs) = reached (x ∷ xs)
-
--- the path in the place numbered k: as many steps as its length says; bytes after them are not read. A length over 64 is no path, and gets 10 as an empty one does
-unfoldable pub pathIn : List ℕ → ℕ → List ℕ
-pathIn sequences k =
-    let steps = word sequences (placeSize * k) in
-    cond (leb steps maxSteps) (take (stepSize * steps) (drop (placeSize * k + 4) sequences)) []
 
 -- the statistics that a reading answers; `kl_div_stats` never gives none, and the second line is there because a reading has three cases
 abbrev pub recorded : Reading Statistics → Until KLDivergenceStats

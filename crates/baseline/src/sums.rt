@@ -3,7 +3,7 @@
 ghost use mathlib.Core.Path.{_≡_};
 ghost use Prim.Native.Nat.{_+_, _*_, _≤_, _<_};
 ghost use lib.ListN.{length};
-ghost use Rattle.book.specs.Limits.{maxEntries};
+ghost use Rattle.entries.specs.Limits.{maxEntries};
 ghost use Rattle.baseline.specs.Limits.{knotValues};
 ghost use Rattle.baseline.specs.Sums.{withValue, withNumber, added as «added-of», pairAt, sumsAt, putPair, putSums};
 use divergence::statistics::KLDivergenceStats;

@@ -10,36 +10,35 @@ ghost use Rattle.priors.specs.Refusals.{checkedNumber};
 ghost use Rattle.priors.specs.Tables.{tablesRefusal};
 ghost use Rattle.priors.specs.Priors.{priorsRefusal};
 ghost use Rattle.priors.specs.Layer.{floorOf};
-ghost use Rattle.book.specs.Limits.{maxEntries, placeSize};
-ghost use Rattle.book.specs.Entries.{rows};
+ghost use Rattle.entries.specs.Limits.{maxEntries, placeSize};
+ghost use Rattle.entries.specs.Entries.{rows};
 ghost use Rattle.book.specs.Form.{bookFits};
 ghost use Rattle.book.specs.Claims.{restarted};
 ghost use Rattle.book.specs.Calls.{zeros};
 ghost use Rattle.divergence.specs.Numbers.{zero64};
 ghost use Rattle.baseline.specs.Limits.{maxSequences, maxPaths, knotValues};
-ghost use Rattle.baseline.specs.Training.{lentOf, inputOf, knotCount, inputFits, knotRoom, sizesRefusal, trainRefusal, pathIn, recordsFrom, allRecords, started, knotLengths, trainAsked, trainTold};
+ghost use Rattle.baseline.specs.Training.{lentOf, inputOf, knotCount, inputFits, knotRoom, sizesRefusal, trainRefusal, recordsFrom, allRecords, started, knotLengths, trainAsked, trainTold};
 ghost use Rattle.baseline.specs.Courses.{checkedNode, Accepted, Holds, Added, bookStats, sampled, entered, allEntered, ended, Went};
 use crate::baselines::MAX_KNOTS;
 use crate::baselines::MAX_SEQUENCES;
 use crate::sums::KNOT_VALUES;
 use crate::sums::add_at;
 use book::form::book_fits;
-use book::limits::MAX_STEPS;
-use book::limits::PLACE_SIZE;
 use book::paths::add_steps;
 use book::paths::whole_path;
+use book::places::path_in;
 use book::queue::clear;
-use book::queue::oldest;
 use book::room::has_room;
 use divergence::answers::KlDivStats;
 use divergence::statistics::stats_of;
+use entries::limits::ENTRY_SIZE;
+use entries::limits::PLACE_SIZE;
 use priors::addresses::layer_of;
 use priors::checks::check_priors;
 use priors::refusals::Checked;
 use priors::refusals::Reason;
 use priors::refusals::Refusal;
 use priors::tables::check_tables;
-use priors::words::read_u32;
 
 // The number of knots, or why there are none.
 pub enum Trained {
@@ -141,19 +140,6 @@ fn check_input(
     }
 }
 
-// The path in the place numbered k. One whose length is over 64 is no path, and is handed on as an empty one.
-fn path_in(sequences: &[u8], k: usize) -> &[u8]
-    requires { ⌜ placeSize * k + placeSize ≤ length (now sequences) ⌝ }
-    ensures { λ r. ⌜ now r ≡ pathIn (now (sequences .entry)) k ⌝ }
-{
-    let at = PLACE_SIZE * k;
-    let steps = read_u32(sequences, at);
-    if steps > MAX_STEPS {
-        return &sequences[at..at];
-    }
-    oldest(sequences, at)
-}
-
 // Adds the path numbered i of the sequence whose first path lies in the place numbered `first`, or says why not: 10, then 12.
 fn add_next(sequences: &[u8], first: usize, i: usize, book: &mut [u8], used: usize) -> Entries
     requires { ⌜ placeSize * (first + i) + placeSize ≤ length (now sequences) ⌝ }
@@ -165,7 +151,7 @@ fn add_next(sequences: &[u8], first: usize, i: usize, book: &mut [u8], used: usi
     if !whole_path(path) {
         return Entries::Stopped(Refusal::Plain(Reason::PathLength));
     }
-    if !has_room(book, used, path) {
+    if !has_room(book, used, path, book.len() / ENTRY_SIZE) {
         return Entries::Stopped(Refusal::Plain(Reason::BookFull));
     }
     Entries::Used(add_steps(book, used, path))

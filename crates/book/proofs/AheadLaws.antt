@@ -9,7 +9,7 @@ use lib.Dec.{eqb, ltb}
 use borrow.Author.Tests.{eq-eqb, ne-eqb, lt-ltb}
 use Rattle.priors.specs.Rows.{Row, keys, Ascends}
 use Rattle.priors.specs.Address.{lift, rank}
-use Rattle.book.specs.Keys.{keyOf, endKey, nodeOf, kindOf}
+use Rattle.entries.specs.Keys.{keyOf, endKey, nodeOf, kindOf}
 use Rattle.book.specs.Form.{plain, follows, formedAfter, formed}
 use Rattle.book.specs.Visits.{evidenceTotal}
 use Rattle.book.specs.Tidy.{keepWhere, stays, kept}

@@ -10,16 +10,16 @@ use lib.Dec.{eqb}
 use lib.ListN.{length, drop, length-append, length-map, length-replicate}
 use lib.Seq.{drop-append-add}
 use borrow.Author.Tests.{le-leb, lt-ltb, eq-eqb}
-use Rattle.priors.specs.Rows.{Row, row}
-use Rattle.book.specs.Keys.{noChild, endKey, nodeOf, kindOf, childOf}
-use Rattle.book.specs.Entries.{rows, bytesOf}
+use Rattle.priors.specs.Rows.{Row, row, keys}
+use Rattle.entries.specs.Keys.{noChild, endKey, nodeOf, kindOf, childOf}
+use Rattle.entries.specs.Entries.{rows, bytesOf, CountsUpTo}
 use Rattle.book.specs.Path.{Steps, listedKeys}
 use Rattle.book.specs.Form.{plain, follows, formedAfter, formed}
 use Rattle.book.specs.Changes.{touchAll}
 use Rattle.book.specs.Calls.{zeros, bookOf}
 use Rattle.book.specs.Recount.{enterAll, listing, counted, rowsOf, bookImage}
 use Rattle.book.specs.Figures.{AllRanks, AllWhole}
-use Rattle.book.proofs.EntryLaws.{InRange, AllInRange, length-bytesOf, rows-bytesOf}
+use Rattle.entries.proofs.EntryLaws.{InRange, AllInRange, length-bytesOf, rows-bytesOf}
 use Rattle.book.proofs.Passes.{FormedAfter, Formed}
 use Rattle.book.proofs.ManyRows.{keys-touches, enterAll-append}
 use Rattle.book.proofs.Image.{keys-rows}
@@ -99,34 +99,44 @@ plain-row k c (inl e) l =
     rw (kind, le-leb c (2 ^ 30) l, eq-eqb (childOf k) noChild child)
 plain-row k c (inr e) l = rw (e, le-leb c (2 ^ 30) l)
 
-module _ (f : ℕ → ℕ) where
-  follows-row : (a k : ℕ) → a < k → (nodeOf a ≡ nodeOf k) ⊎ (k ≡ endKey (nodeOf k)) → follows a (row k (f k)) ≡ true
-  unfolding follows
-  follows-row a k l (inl e) = rw (lt-ltb a k l, eq-eqb (nodeOf a) (nodeOf k) e)
-  follows-row a k l (inr e) =
-      let kind : kindOf k ≡ 0 = ap kindOf e ∙ kind-end (nodeOf k) in
-      rw (lt-ltb a k l, kind) (go (eqb (nodeOf a) (nodeOf k)))
-    where
-      go : (b : Bool) → b || true ≡ true
-      go true = refl
-      go false = refl
+follows-row : (a : ℕ) (r : Row) → a < r .key → (nodeOf a ≡ nodeOf (r .key)) ⊎ (r .key ≡ endKey (nodeOf (r .key))) → follows a r ≡ true
+unfolding follows
+follows-row a r l (inl e) = rw (lt-ltb a (r .key) l, eq-eqb (nodeOf a) (nodeOf (r .key)) e)
+follows-row a r l (inr e) =
+    let kind : kindOf (r .key) ≡ 0 = ap kindOf e ∙ kind-end (nodeOf (r .key)) in
+    rw (lt-ltb a (r .key) l, kind) (go (eqb (nodeOf a) (nodeOf (r .key))))
+  where
+    go : (b : Bool) → b || true ≡ true
+    go true = refl
+    go false = refl
 
-  formed-after : (a : ℕ) (ks : List ℕ) → FormedAfter a ks → ((k : ℕ) → In k ks → plain (row k (f k)) ≡ true) → formedAfter a (map (λ k. row k (f k)) ks) ≡ true
-  unfolding formedAfter
-  formed-after a [] h p = refl
-  formed-after a (k ∷ ks) h p = rw (p k (in-head k k ks refl), follows-row a k (h .0) (h .1)) (formed-after k ks (h .2) (λ j i. p j (in-tail j k ks i)))
+formed-after : (a : ℕ) (rs : List Row) → FormedAfter a (keys rs) → ((k : ℕ) → In k (keys rs) → EndOrChild k) → CountsUpTo (2 ^ 30) rs → formedAfter a rs ≡ true
+unfolding formedAfter
+formed-after a [] h p c = refl
+formed-after a (r ∷ rs) h p c =
+    rw (plain-row (r .key) (r .count) (p (r .key) (in-head (r .key) (r .key) (keys rs) refl)) (c .0), follows-row a r (h .0) (h .1))
+    (formed-after (r .key) rs (h .2) (λ j i. p j (in-tail j (r .key) (keys rs) i)) (c .1))
 
-  formed-keys : (ks : List ℕ) → Formed ks → ((k : ℕ) → In k ks → plain (row k (f k)) ≡ true) → formed (map (λ k. row k (f k)) ks) ≡ true
-  unfolding formed
-  formed-keys [] h p = refl
-  formed-keys (k ∷ ks) h p =
-      let kind : kindOf k ≡ 0 = ap kindOf (h .0) ∙ kind-end (nodeOf k) in
-      rw (p k (in-head k k ks refl), kind) (formed-after k ks (h .1) (λ j i. p j (in-tail j k ks i)))
+-- rows whose keys have the form of a book's
+pub formed-of : (rs : List Row) → Formed (keys rs) → ((k : ℕ) → In k (keys rs) → EndOrChild k) → CountsUpTo (2 ^ 30) rs → formed rs ≡ true
+unfolding formed
+formed-of [] h p c = refl
+formed-of (r ∷ rs) h p c =
+    let kind : kindOf (r .key) ≡ 0 = ap kindOf (h .0) ∙ kind-end (nodeOf (r .key)) in
+    rw (plain-row (r .key) (r .count) (p (r .key) (in-head (r .key) (r .key) (keys rs) refl)) (c .0), kind)
+    (formed-after (r .key) rs (h .1) (λ j i. p j (in-tail j (r .key) (keys rs) i)) (c .1))
+
+counts-map : (f : ℕ → ℕ) (ks : List ℕ) (m : ℕ) → ((k : ℕ) → f k ≤ m) → CountsUpTo m (map (λ k. row k (f k)) ks)
+counts-map f [] m h = tt
+counts-map f (k ∷ ks) m h = (h k, counts-map f ks m h)
+
+counts-image : (W : ℕ) (H L : List Steps) → AllWhole H → length H ≤ 16777216 → AllRanks L → CountsUpTo (2 ^ 30) (rowsOf W H L)
+unfolding rowsOf
+counts-image W H L whole few ranks = counts-map (counted W H) (listing L) (2 ^ 30) (counts-le W H L whole few ranks)
 
 pub formed-image : (W : ℕ) (H L : List Steps) → AllWhole H → length H ≤ 16777216 → AllRanks L → formed (rowsOf W H L) ≡ true
-unfolding rowsOf
 formed-image W H L whole few ranks =
-    formed-keys (counted W H) (listing L) (rw (← keys-rows W H L) (formed-rows W H L ranks)) (λ k i. plain-row k (counted W H k) (listed-sort L ranks k i) (counts-le W H L whole few ranks k))
+    formed-of (rowsOf W H L) (formed-rows W H L ranks) (λ k i. listed-sort L ranks k (rw (keys-rows W H L) at i)) (counts-image W H L whole few ranks)
 
 -- ---- an add
 

@@ -17,14 +17,15 @@ use Rattle.priors.proofs.BelowLaws.{first-true, second-true}
 use Rattle.priors.proofs.Ranks.{Bytes}
 use Rattle.book.specs.declared.trackers.Tracker.{Tracker}
 use Rattle.book.specs.declared.trackers.Changed.{Changed}
-use Rattle.book.specs.Limits.{maxWindow, maxAccepted}
-use Rattle.book.specs.Entries.{rows, bytesOf, Rewritten}
+use Rattle.entries.specs.Limits.{maxWindow, maxAccepted, maxCount}
+use Rattle.entries.specs.Entries.{rows, bytesOf, Rewritten, CountsUpTo}
 use Rattle.book.specs.Path.{listedKeys, countedKeys, pathOf, wholePath}
 use Rattle.book.specs.Form.{capacity, bookFits, queueFits, stateFits, formed, lengthsFit, filled, inForm}
 use Rattle.book.specs.Changes.{changeAll, touchAll, bumpAll, fadeAll, leftKeys, addRows, EndingsListed}
-use Rattle.book.specs.Calls.{BookAnswer, changedNumber, changedState, changedAnswer, zeros, bookOf, fresh, openNumber, openState, openBook, openQueue, openAnswer, addNumber, addState, addBook, addQueue, addAnswer, stateAfter, bookAfter, queueWith, listedRows, leaving, nextPlace, stepsAt, placeBytes, rowsAfter, Leaves, Ready}
+use Rattle.book.specs.Calls.{BookAnswer, changedNumber, changedState, changedAnswer, zeros, bookOf, fresh, openNumber, openState, openBook, openQueue, openAnswer, addNumber, addState, addBook, addQueue, addAnswer, stateAfter, bookAfter, queueWith, listedRows, leaving, nextPlace, stepsAt, placeBytes, rowsAfter}
+use Rattle.book.specs.Adding.{Leaves, Ready}
 use Rattle.book.specs.Tidy.{rowsTidied, stateTidied, tidyNumber, tidyState, tidyBook, tidyAnswer}
-use Rattle.book.proofs.EntryLaws.{length-rows, length-bytesOf, rows-forth}
+use Rattle.entries.proofs.EntryLaws.{length-rows, length-bytesOf, rows-forth}
 use Rattle.book.proofs.ManyRows.{ascends-all}
 use Rattle.book.proofs.Lengths.{length-half}
 use Rattle.book.proofs.FormLaws.{formed-ascends, formed-counts, lengths-at}
@@ -35,12 +36,12 @@ use Rattle.book.proofs.StepLaws.{part-steps, path-even, path-high}
 
 module _ (window : ℕ) (book queue : List ℕ) where
   pub open-refused : (n : ℕ) → openNumber window book queue ≡ suc n
-      → record { number = suc n; state = none; book = book; queue = queue } ≡ openAnswer window book queue
+      → record { number = suc n; state = none; taken = none; book = book; queue = queue } ≡ openAnswer window book queue
   unfolding openState openBook openQueue
   open-refused n e = rw e
 
   pub open-taken : openNumber window book queue ≡ 0
-      → record { number = 0; state = some (fresh window); book = zeros (length book); queue = zeros (length queue) } ≡ openAnswer window book queue
+      → record { number = 0; state = some (fresh window); taken = none; book = zeros (length book); queue = zeros (length queue) } ≡ openAnswer window book queue
   unfolding openState openBook openQueue
   open-taken e = rw e
 
@@ -61,59 +62,23 @@ module _ (window : ℕ) (book queue : List ℕ) where
 
 module _ (t : Tracker) (book queue path : List ℕ) where
   pub add-refused : (n : ℕ) → addNumber t book queue path ≡ suc n
-      → record { number = suc n; state = some t; book = book; queue = queue } ≡ addAnswer t book queue path
+      → record { number = suc n; state = some t; taken = none; book = book; queue = queue } ≡ addAnswer t book queue path
   unfolding addState addBook addQueue
   add-refused n e = rw e
-
-  pub add-taken : addNumber t book queue path ≡ 0
-      → record { number = 0; state = some (stateAfter t book queue path); book = bookAfter t book queue path; queue = queueWith t queue path } ≡ addAnswer t book queue path
-  unfolding addState addBook addQueue
-  add-taken e = rw e
 
   pub out-of-form : inForm t book queue ≡ false → addNumber t book queue path ≡ 9
   unfolding addNumber
   out-of-form e = rw e
 
-  module _ (formed : inForm t book queue ≡ true) where
-    pub path-wrong : wholePath path ≡ false → addNumber t book queue path ≡ 10
-    unfolding addNumber
-    path-wrong e = rw (formed, e)
-
-    module _ (whole : wholePath path ≡ true) where
-      pub paths-full : maxAccepted ≤ t .accepted → addNumber t book queue path ≡ 11
-      unfolding addNumber
-      paths-full h = rw (formed, whole, le-ltb (t .accepted) maxAccepted h)
-
-      module _ (more : t .accepted < maxAccepted) where
-        pub book-full : leb (length (listedRows t book path)) (capacity book) ≡ false → addNumber t book queue path ≡ 12
-        unfolding addNumber
-        book-full e = rw (formed, whole, lt-ltb (t .accepted) maxAccepted more, e)
-
-        pub nothing-refused : leb (length (listedRows t book path)) (capacity book) ≡ true → addNumber t book queue path ≡ 0
-        unfolding addNumber
-        nothing-refused e = rw (formed, whole, lt-ltb (t .accepted) maxAccepted more, e)
-
-  -- the parts of the answer
-  module _ (a : Changed) (book′ queue′ : List ℕ) (e : changedAnswer a book′ queue′ ≡ addAnswer t book queue path) where
-    pub added-number : changedNumber a ≡ addNumber t book queue path
-    added-number = ap (λ (x : BookAnswer). x .number) e
-
-    pub added-state : changedState a ≡ addState t book queue path
-    added-state = ap (λ (x : BookAnswer). state-or (x .state)) e
-      where
-        state-or : Option Tracker → Tracker
-        state-or none = t
-        state-or (some s) = s
-
 -- ---- a tidy
 
 module _ (t : Tracker) (book queue : List ℕ) where
-  pub tidy-refused : inForm t book queue ≡ false → _≡_ {A = BookAnswer} (record { number = 9; state = some t; book = book; queue = queue }) (tidyAnswer t book queue)
+  pub tidy-refused : inForm t book queue ≡ false → _≡_ {A = BookAnswer} (record { number = 9; state = some t; taken = none; book = book; queue = queue }) (tidyAnswer t book queue)
   unfolding tidyNumber tidyState tidyBook
   tidy-refused e = rw e
 
   pub tidy-done : inForm t book queue ≡ true → (n : ℕ) → n ≡ length (rowsTidied t book) → (after : List ℕ) → after ≡ bookOf (rowsTidied t book) (length book)
-      → _≡_ {A = BookAnswer} (record { number = 0; state = some (record { window = t .window; used = n; accepted = t .accepted }); book = after; queue = queue }) (tidyAnswer t book queue)
+      → _≡_ {A = BookAnswer} (record { number = 0; state = some (record { window = t .window; used = n; accepted = t .accepted }); taken = none; book = after; queue = queue }) (tidyAnswer t book queue)
   unfolding tidyNumber tidyState stateTidied tidyBook
   tidy-done e n is after leaves = rw (e, is, leaves)
 
@@ -167,7 +132,7 @@ module _ (t : Tracker) (book queue : List ℕ) (form : inForm t book queue ≡ t
   unfolding rest-formed
   form-formed = first-true (formed (rows book (t .used))) (lengthsFit queue (filled t)) after-queue
 
-  form-leaves : Leaves t queue
+  pub form-leaves : Leaves t queue
   unfolding rest-queue rest-formed
   form-leaves = record {
     places-fit = places-fit (t .window) queue (first-true (queueFits (t .window) queue) rest-formed after-state);
@@ -180,19 +145,18 @@ module _ (t : Tracker) (book queue : List ℕ) (form : inForm t book queue ≡ t
   pub form-endings : EndingsListed (rows book (t .used))
   form-endings = formed-endings (rows book (t .used)) form-formed
 
-  -- no test turns the path back
-  pub ready : (path : List ℕ) → wholePath path ≡ true → t .accepted < maxAccepted → leb (length (listedRows t book path)) (capacity book) ≡ true → Ready t book queue path
-  ready path whole more room = record {
-    book-fits = form-book;
-    used-fit = form-used;
-    ascends = form-ascends;
-    endings-listed = form-endings;
-    counts-fit = formed-counts (rows book (t .used)) form-formed;
-    queue-fits = form-leaves;
-    path-whole = whole;
-    not-last = more;
-    room = leb-true (length (listedRows t book path)) (capacity book) room;
-  }
+  pub form-counts : CountsUpTo maxCount (rows book (t .used))
+  form-counts = formed-counts (rows book (t .used)) form-formed
+
+  pub form-window : t .window ≤ maxWindow
+  unfolding stateFits rest-state rest-queue
+  form-window = leb-true (t .window) maxWindow (first-true (leb (t .window) maxWindow) (leb (t .used) (capacity book) && leb (t .accepted) maxAccepted) (first-true (stateFits t book) rest-queue after-book))
+
+  pub form-accepted : t .accepted ≤ maxAccepted
+  unfolding stateFits rest-state rest-queue
+  form-accepted =
+      let low : Bool = leb (t .accepted) maxAccepted in
+      leb-true (t .accepted) maxAccepted (second-true (leb (t .used) (capacity book)) low (second-true (leb (t .window) maxWindow) (leb (t .used) (capacity book) && low) (first-true (stateFits t book) rest-queue after-book)))
 
 -- ---- the path that leaves
 

@@ -1,23 +1,25 @@
 -- W, H and L, read off the answers, are the recount's, and the rows of its image tell what its paths hold; and what single calls leave. Assumes nothing.
 use mathlib.Core.Path.{_≡_, refl, sym, ap, ap₂, _∙_}
 use Prim.Native.Nat.{ℕ, zero, suc, _+_, _*_, _/_, _%_, _≤_}
+use native.Mathlib.Numerals.{add-one}
 use native.Mathlib.Omega.{arith}
-use mathlib.Core.List.{List, [], _∷_, _++_}
-use mathlib.Core.Option.{some}
+use mathlib.Core.List.{List, [], _∷_, _++_, append-nil, append-assoc}
+use mathlib.Core.Option.{Option, none, some}
 use mathlib.Core.Bool.{Bool, true, false, cond, _&&_}
 use lib.Dec.{leb, ltb, eqb}
 use lib.ListN.{length, drop}
 use mathlib.Core.Logic.{_↔_}
 use Rattle.priors.specs.Rows.{look, countOf}
 use Rattle.priors.proofs.Exactly.{look-exact}
-use Rattle.book.specs.Keys.{endKey, childKey}
+use Rattle.entries.specs.Keys.{endKey, childKey}
 use Rattle.book.specs.Path.{Steps, pathOf, stepBytes}
-use Rattle.book.specs.Calls.{unlessRefused, openBook, openQueue, addState, addBook, addQueue}
+use Rattle.book.specs.Calls.{Machine, unlessRefused, openBook, openQueue, addState, addBook, addQueue}
+use Rattle.book.specs.Batches.{Batched, lentPath, placesIn, lentPaths, tried, batched}
 use Rattle.book.specs.Tidy.{tidyState, tidyBook}
 use Rattle.book.specs.Recount.{occurrences, windowPart, beforeWindow, listing, rowsOf}
 use Rattle.book.specs.Figures.{AllWhole, Ranks, AllRanks, total, transitions, endings, Listed}
-use Rattle.book.specs.Claims.{BookCall, opening, add, tidy, runs, Machine, bookStep, Recount, since, openRefusal, addRefusal, restarted, joined, tidied, recountStep, image}
-use Rattle.book.specs.Corollaries.{Heard, heardWith, heardOf, NoTidy, AllListWithoutTidies, HasRow, Told, OpeningStartsAfresh, RefusedOpeningLeavesAll, RefusedAddLeavesAll, RefusedTidyLeavesAll, FormReadsNoOther}
+use Rattle.book.specs.Claims.{BookCall, opening, add, addPaths, tidy, runs, bookStep, Recount, since, openRefusal, addRefusal, restarted, joined, joinedBy, tidied, recountStep, image}
+use Rattle.book.specs.Corollaries.{Heard, heardMore, heardTaken, heardWith, heardOf, NoTidy, AllListWithoutTidies, HasRow, Told, OpeningStartsAfresh, RefusedOpeningLeavesAll, RefusedAddLeavesAll, RefusedTidyLeavesAll, FormReadsNoOther}
 use Rattle.book.proofs.Passes.{found}
 use Rattle.book.proofs.Meaning.{look-ending, look-child, node-listed, child-listed-iff}
 use Rattle.book.proofs.VisitLaws.{all-counts, total-visits, total-none, never-visited}
@@ -25,7 +27,8 @@ use Rattle.book.proofs.Image.{ascends-rows}
 use Rattle.book.proofs.LeastLaws.{listing-least, least-le}
 use Rattle.book.proofs.Window.{EndsWith}
 use Rattle.book.proofs.BaseLaws.{drop-before, before-all}
-use Rattle.book.proofs.Kept.{Early, Kept, since-ends, since-whole, since-ranks, since-joined, early-step, all-snoc, kept-tidied}
+use Rattle.book.proofs.Kept.{Early, Kept, since-ends, since-whole, since-ranks, since-joined, early-batch, early-step, all-snoc, kept-tidied}
+use Rattle.book.proofs.BatchLaws.{batch-taken}
 use Rattle.book.proofs.FormLaws.{form-reads}
 use Rattle.book.proofs.FormImage.{book-size, rows-are, add-number}
 use Rattle.book.proofs.Claimed.{opened, tidy-leaves}
@@ -40,13 +43,50 @@ unless-field : {X Y : Type 0} (f : X → Y) (n : ℕ) (a b : X) → f (unlessRef
 unless-field f zero a b = refl
 unless-field f (suc n) a b = refl
 
+-- a path that joins H joins what lists
+heard-joined : (r : Recount) → Early r → (p : Steps) → heardMore (heardIn r) (p ∷ []) ≡ heardIn (joined r p)
+heard-joined r e p = λ i. record { window = r .window; paths = r .paths ++ p ∷ []; lists = sym (since-joined r e p) i }
+
+heard-more : (h : Heard) (ps qs : List Steps) → heardMore h (ps ++ qs) ≡ heardMore (heardMore h ps) qs
+heard-more h ps qs = λ i. record { window = h .window; paths = sym (append-assoc (h .paths) ps qs) i; lists = sym (append-assoc (h .lists) ps qs) i }
+
+heard-none : (h : Heard) → h ≡ heardMore h []
+heard-none h = λ i. record { window = h .window; paths = sym (append-nil (h .paths)) i; lists = sym (append-nil (h .lists)) i }
+
+-- the paths of a list that were taken have joined
+heard-batch : (r : Recount) → Early r → (places : List ℕ) (k : ℕ) → let b = batched addRefusal joinedBy r places k in heardMore (heardIn r) (lentPaths places (b .taken)) ≡ heardIn (b .left)
+unfolding batched lentPaths
+heard-batch r e places zero = sym (heard-none (heardIn r))
+heard-batch r e places (suc k) =
+    go (batched addRefusal joinedBy r places k) (heard-batch r e places k) (batch-taken addRefusal joinedBy r places k) (early-batch r places e k)
+  where
+    one : (b : Batched Recount) → heardMore (heardIn r) (lentPaths places (b .taken)) ≡ heardIn (b .left) → b .taken ≡ k → Early (b .left) → (n : ℕ)
+        → heardMore (heardIn r) (lentPaths places (unlessRefused n (b .taken + 1) (b .taken))) ≡ heardIn (unlessRefused n (joined (b .left) (pathOf (lentPath places k))) (b .left))
+    one b h t l zero =
+        ap (λ (m : ℕ). heardMore (heardIn r) (lentPaths places m)) (add-one (b .taken) ∙ ap suc t)
+        ∙ heard-more (heardIn r) (lentPaths places k) (pathOf (lentPath places k) ∷ [])
+        ∙ ap (λ (m : ℕ). heardMore (heardMore (heardIn r) (lentPaths places m)) (pathOf (lentPath places k) ∷ [])) (sym t)
+        ∙ ap (λ (x : Heard). heardMore x (pathOf (lentPath places k) ∷ [])) h
+        ∙ heard-joined (b .left) l (pathOf (lentPath places k))
+    one b h t l (suc n) = h
+
+    turn : (b : Batched Recount) → heardMore (heardIn r) (lentPaths places (b .taken)) ≡ heardIn (b .left) → Early (b .left) → (n : ℕ) → (n ≡ 0 → b .taken ≡ k)
+        → let c = unlessRefused n (tried addRefusal joinedBy b (lentPath places k)) b in heardMore (heardIn r) (lentPaths places (c .taken)) ≡ heardIn (c .left)
+    turn b h l zero t = one b h (t refl) l (addRefusal (b .left) (lentPath places k))
+    turn b h l (suc n) t = h
+
+    go : (b : Batched Recount) → heardMore (heardIn r) (lentPaths places (b .taken)) ≡ heardIn (b .left) → (b .number ≡ 0 → b .taken ≡ k) → Early (b .left)
+        → let c = unlessRefused (b .number) (tried addRefusal joinedBy b (lentPath places k)) b in heardMore (heardIn r) (lentPaths places (c .taken)) ≡ heardIn (c .left)
+    go b h t l = turn b h l (b .number) t
+
 -- what one call makes of them is what it makes of the recount's
-heard-step : (r : Recount) → Early r → (c : BookCall) → heardWith (heardIn r) c (recountStep r c .0 .number) ≡ heardIn (recountStep r c .1)
+heard-step : (r : Recount) → Early r → (c : BookCall) → heardWith (heardIn r) c (recountStep r c .0) ≡ heardIn (recountStep r c .1)
 unfolding recountStep
 heard-step r e (opening w book queue) = sym (unless-field heardIn (openRefusal w (length book) (length queue)) (restarted w (length book) (length queue)) r)
 heard-step r e (add path) =
-    (λ i. unlessRefused (addRefusal r path) (record { window = r .window; paths = r .paths ++ pathOf path ∷ []; lists = sym (since-joined r e (pathOf path)) i }) (heardIn r))
+    (λ i. unlessRefused (addRefusal r path) (heard-joined r e (pathOf path) i) (heardIn r))
     ∙ sym (unless-field heardIn (addRefusal r path) (joined r (pathOf path)) r)
+heard-step r e (addPaths places) = heard-batch r e places (placesIn places)
 heard-step r e tidy = λ i. record { window = r .window; paths = r .paths; lists = sym (drop-before (r .window) (r .paths)) i }
 
 pub heard-runs : (r : Recount) → Early r → (cs : List BookCall) → heardOf (heardIn r) cs (runs recountStep r cs .0) ≡ heardIn (runs recountStep r cs .1)
@@ -60,14 +100,21 @@ pub all-list-without-tidies : AllListWithoutTidies
 unfolding heardOf
 all-list-without-tidies h e [] n answers = e
 all-list-without-tidies h e (c ∷ cs) n [] = e
-all-list-without-tidies h e (c ∷ cs) n (a ∷ answers) = all-list-without-tidies (heardWith h c (a .number)) (one c (a .number) (n .0)) cs (n .1) answers
+all-list-without-tidies h e (c ∷ cs) n (a ∷ answers) = all-list-without-tidies (heardWith h c a) (one c (n .0)) cs (n .1) answers
   where
-    one : (c : BookCall) (k : ℕ) → NoTidy c → heardWith h c k .lists ≡ heardWith h c k .paths
-    one (opening w book queue) zero t = refl
-    one (opening w book queue) (suc k) t = e
-    one (add path) zero t = ap (λ (P : List Steps). P ++ pathOf path ∷ []) e
-    one (add path) (suc k) t = e
-    one tidy k t = absurd t
+    unless : (k : ℕ) (x : Heard) → x .lists ≡ x .paths → unlessRefused k x h .lists ≡ unlessRefused k x h .paths
+    unless zero x q = q
+    unless (suc k) x q = e
+
+    more : (t : Option ℕ) (places : List ℕ) → heardTaken h places t .lists ≡ heardTaken h places t .paths
+    more none places = e
+    more (some k) places = ap (λ (P : List Steps). P ++ lentPaths places k) e
+
+    one : (c : BookCall) → NoTidy c → heardWith h c a .lists ≡ heardWith h c a .paths
+    one (opening w book queue) t = unless (a .number) (record { window = w; paths = []; lists = [] }) refl
+    one (add path) t = unless (a .number) (heardMore h (pathOf path ∷ [])) (ap (λ (P : List Steps). P ++ pathOf path ∷ []) e)
+    one (addPaths places) t = more (a .taken) places
+    one tidy t = absurd t
 
 -- ---- 9
 
@@ -80,6 +127,15 @@ add-not-nine r path = go (leb 8 (length path) && (leb (length path) 512 && eqb (
     go true true false h = omega arith
     go true false c h = omega arith
     go false b c h = omega arith
+
+pub batch-not-nine : (r : Recount) (places : List ℕ) (k : ℕ) → batched addRefusal joinedBy r places k .number ≡ 9 → ⊥
+unfolding batched
+batch-not-nine r places zero h = omega arith
+batch-not-nine r places (suc k) h = turn (batched addRefusal joinedBy r places k) (batch-not-nine r places k) (batched addRefusal joinedBy r places k .number) h
+  where
+    turn : (b : Batched Recount) → (b .number ≡ 9 → ⊥) → (n : ℕ) → unlessRefused n (tried addRefusal joinedBy b (lentPath places k)) b .number ≡ 9 → ⊥
+    turn b never zero e = add-not-nine (b .left) (lentPath places k) e
+    turn b never (suc n) e = never e
 
 -- ---- what the book tells
 

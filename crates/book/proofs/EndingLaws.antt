@@ -12,7 +12,7 @@ use lib.Dec.{ltb, eqb}
 use lib.ListN.{length, take}
 use borrow.Author.Tests.{eqb-true}
 use Rattle.priors.specs.Rows.{Row, keys, Ascends, look, change, touch}
-use Rattle.book.specs.Keys.{endKey, childKey, nodeOf, kindOf}
+use Rattle.entries.specs.Keys.{endKey, childKey, nodeOf, kindOf}
 use Rattle.book.specs.Path.{Steps, listedKeys}
 use Rattle.book.specs.Figures.{Listed, Ranks}
 use Rattle.book.specs.Form.{plain, follows, formedAfter, formed}
@@ -21,6 +21,7 @@ use Rattle.priors.proofs.Orders.{Side, below, same, above, side, Alike, alike, 
 use Rattle.priors.proofs.Tests.{both}
 use Rattle.priors.proofs.RowLaws.{afterTouch, look-other, look-touch, touch-found}
 use Rattle.priors.proofs.Ext.{never, look-first, look-rest, look-low}
+use Rattle.book.proofs.Membership.{In, in-head, in-tail, in-cons, in-none}
 use Rattle.book.proofs.ListingForm.{node-end, node-child}
 use Rattle.book.proofs.Lengths.{listed-change}
 use Rattle.book.proofs.FormLaws.{ascends-after, ending-key}
@@ -66,6 +67,16 @@ module _ (r : Row) (rs : List Row) (ascends : Ascends (suc (r .key)) (keys rs)) 
     endings-begin k (inl n) j l = ⊎-elim (λ q. inl (ap nodeOf q ∙ sym n)) (λ m. ⊎-elim (λ q. inl (q ∙ sym n)) (λ x. inr (listed-behind (endKey (nodeOf j)) x)) (rest j m)) (listed-cases j r rs l)
     endings-begin k (inr e) j l = inr (endings-behind e j l)
 
+-- a key is listed where it is one of the rows' keys
+pub listed-in : (j : ℕ) (rs : List Row) → Listed j rs → In j (keys rs)
+unfolding look
+listed-in j [] l = let z : _≡_ {A = ℕ} 0 1 = cc in absurd (omega arith)
+listed-in j (r ∷ rs) l = ⊎-elim (λ q. in-head j (r .key) (keys rs) q) (λ m. in-tail j (r .key) (keys rs) (listed-in j rs m)) (listed-cases j r rs l)
+
+pub in-listed : (a j : ℕ) (rs : List Row) → Ascends a (keys rs) → In j (keys rs) → Listed j rs
+in-listed a j [] h i = in-none j i
+in-listed a j (r ∷ rs) h i = ⊎-elim (λ q. rw q (r .count, look-first r rs)) (λ m. listed-behind r rs (h .1) j (in-listed (suc (r .key)) j rs (h .1) m)) (in-cons j (r .key) (keys rs) i)
+
 -- after the key k, a row's node is that of k or has its ending among the rows
 endings-after : (k : ℕ) (rs : List Row) → formedAfter k rs ≡ true → (j : ℕ) → Listed j rs → (nodeOf j ≡ nodeOf k) ⊎ Listed (endKey (nodeOf j)) rs
 unfolding formedAfter follows look
@@ -91,7 +102,7 @@ formed-endings (r ∷ rs) h j l =
 -- ---- one change
 
 -- of a key whose node's ending is listed afterwards
-change-keeps : (new : Option ℕ) (step : ℕ → ℕ) (k : ℕ) (rs : List Row) → Listed (endKey (nodeOf k)) (change new step k rs) → EndingsListed rs → EndingsListed (change new step k rs)
+pub change-keeps : (new : Option ℕ) (step : ℕ → ℕ) (k : ℕ) (rs : List Row) → Listed (endKey (nodeOf k)) (change new step k rs) → EndingsListed rs → EndingsListed (change new step k rs)
 change-keeps new step k rs own h j l = go (compared j k)
   where
     go : Alike j k → Listed (endKey (nodeOf j)) (change new step k rs)

@@ -2,22 +2,24 @@
 use mathlib.Core.Path.{_≡_, refl}
 use Prim.Native.Nat.{ℕ}
 use mathlib.Core.List.{List, [], _∷_, _++_, map, flatMap}
+use mathlib.Core.Option.{some}
 use lib.ListN.{replicate}
 use Rattle.priors.specs.Word.{word, store}
 use Rattle.priors.specs.Address.{lift, rank}
 use Rattle.priors.specs.Rows.{row, change}
-use Rattle.book.specs.Keys.{keyOf, endKey, childKey, nodeOf, kindOf, childOf}
-use Rattle.book.specs.Entries.{keyAt, rowAt, rows, rowBytes, bytesOf}
+use Rattle.entries.specs.Keys.{keyOf, endKey, childKey, nodeOf, kindOf, childOf}
+use Rattle.entries.specs.Entries.{keyAt, rowAt, rows, rowBytes, bytesOf}
 use Rattle.book.specs.Path.{Steps, stepsOf, wholePath, listedKeys, countedKeys}
 use Rattle.book.specs.Form.{bookFits, queueFits, plain, follows, formedAfter, formed, lengthsFit, stateFits, inForm}
 use Rattle.book.specs.Changes.{changeAll, addRows}
-use Rattle.book.specs.Calls.{bookOf, fresh, openNumber, openState, openBook, openQueue, leaving, addNumber, rowsAfter, addState, stateAfter, addBook, bookAfter, placeBytes, queueWith, addQueue}
+use Rattle.book.specs.Calls.{Machine, bookOf, fresh, openNumber, openState, openBook, openQueue, leaving, addNumber, rowsAfter, addState, stateAfter, addBook, bookAfter, placeBytes, queueWith, addQueue}
+use Rattle.book.specs.Batches.{pathIn, lentPath, placesIn, batched}
 use Rattle.book.specs.Tidy.{keepWhere, stays, kept, tidyNumber, stateTidied, tidyState, tidyBook}
 use Rattle.book.specs.Recount.{windowPart, sequenceLength, beforeWindow, enter, enterAll, listing}
 use Rattle.book.specs.Figures.{total}
 use Rattle.book.specs.Visits.{arrivals, beginnings, visits, evidenceTotal}
 use Rattle.book.specs.Memory.{among, different, pairs, least, numbers}
-use Rattle.book.specs.Claims.{BookCall, opening, add, tidy, runs, Machine, bookStep, recountStep, openRefusal, addRefusal, restarted}
+use Rattle.book.specs.Claims.{BookCall, opening, add, addPaths, tidy, runs, bookStep, recountStep, openRefusal, addRefusal, restarted}
 use Rattle.book.specs.Corollaries.{nothingHeard, heardOf, entriesOf}
 
 abbrev high : List ℕ
@@ -124,3 +126,22 @@ lists-left = refl
 tidied-rows : kept (row (endKey 1) 0 ∷ row (childKey 1 2) 1 ∷ row (childKey 1 3) 0 ∷ row (endKey 2) 0 ∷ []) ≡ row (endKey 1) 0 ∷ row (childKey 1 2) 1 ∷ []
 unfolding kept keepWhere stays evidenceTotal nodeOf kindOf endKey childKey keyOf rank lift
 tidied-rows = refl
+
+-- a lent place has a length, steps, and bytes that are not read. A length over 64 and a cut-off place hold no path, whatever of it is there
+abbrev place : ℕ → List ℕ → List ℕ
+place n step = n ∷ 0 ∷ 0 ∷ 0 ∷ step ++ replicate 504 5
+
+abbrev lent : List ℕ
+lent = place 1 high ++ place 65 low ++ place 1 low ++ 1 ∷ 0 ∷ 0 ∷ 0 ∷ high
+
+lent-are : map (lentPath lent) (0 ∷ 1 ∷ 2 ∷ 3 ∷ []) ≡ high ∷ [] ∷ low ∷ [] ∷ []
+unfolding lentPath pathIn word
+lent-are = refl
+
+places-are : map (λ n. placesIn (replicate n 0)) (0 ∷ 1 ∷ 515 ∷ 516 ∷ 517 ∷ []) ≡ 0 ∷ 1 ∷ 1 ∷ 1 ∷ 2 ∷ []
+places-are = refl
+
+-- in a book of one entry the first of three paths is taken; the second has no room, and the third, which has, is not tried
+stopped-is : let a = recountStep (restarted 0 24 0) (addPaths (place 1 high ++ place 1 low ++ place 1 high)) .0 in (a .number ≡ 12) × (a .taken ≡ some 1)
+unfolding recountStep batched lentPath pathIn addRefusal listing enterAll enter flatMap listedKeys stepsOf word rank lift endKey childKey keyOf
+stopped-is = (refl, refl)

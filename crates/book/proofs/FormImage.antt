@@ -7,7 +7,7 @@ use mathlib.Core.Bool.{true}
 use lib.ListN.{length}
 use borrow.Author.Tests.{le-leb, eq-eqb}
 use Rattle.priors.specs.Rows.{Row}
-use Rattle.book.specs.Entries.{rows}
+use Rattle.entries.specs.Entries.{rows}
 use Rattle.book.specs.Path.{Steps, pathOf, listedKeys}
 use Rattle.book.specs.Form.{queueFits, stateFits, inForm}
 use Rattle.book.specs.Changes.{touchAll}

@@ -2,7 +2,7 @@
 use mathlib.Core.Path.{_≡_, refl, sym, ap, ap₂, _∙_}
 use mathlib.Core.Bool.{Bool, true, false, _&&_, _||_}
 use Prim.Native.Nat.{ℕ, zero, suc, _+_, _-_, _*_, _^_, _≤_, _<_, zero-le}
-use mathlib.Core.Logic.{⊎-elim}
+use mathlib.Core.Logic.{_⊎_, inl, inr, ⊎-elim}
 use native.Mathlib.Nat.{not-suc-le-zero, le-of-suc-le-suc, eq-or-lt-of-le}
 use native.Mathlib.Numerals.{add-one}
 use native.Mathlib.Omega.{arith}
@@ -15,15 +15,15 @@ use Rattle.priors.specs.Word.{word}
 use Rattle.priors.specs.Rows.{Row, row, keys, Ascends}
 use Rattle.priors.specs.Search.{blank}
 use Rattle.priors.proofs.BelowLaws.{first-true, second-true}
-use Rattle.book.specs.Limits.{maxCount, maxSteps, placeSize}
-use Rattle.book.specs.Keys.{keyOf, endKey, nodeOf, kindOf, childOf, noChild, keyValue}
-use Rattle.book.specs.Entries.{fieldsAt, keyAt, rowAt, rows}
-use Rattle.book.specs.declared.keys.Key.{Key}
+use Rattle.entries.specs.Limits.{maxCount, maxSteps, placeSize}
+use Rattle.book.specs.Figures.{All}
+use Rattle.entries.specs.Keys.{keyOf, endKey, nodeOf, kindOf, childOf, noChild, keyValue}
+use Rattle.entries.specs.Entries.{fieldsAt, keyAt, rowAt, rows, CountsUpTo}
+use Rattle.entries.specs.declared.keys.Key.{Key}
 use Rattle.book.specs.declared.trackers.Tracker.{Tracker}
 use Rattle.book.specs.Form.{bookFits, queueFits, stateFits, plain, follows, formedAfter, formed, lengthsFit, filled, inForm}
-use Rattle.book.specs.Changes.{CountsUpTo}
-use Rattle.book.proofs.KeyLaws.{key-order, key-node, key-kind, key-child, key-parts}
-use Rattle.book.proofs.EntryLaws.{length-rows, getD-rows, row-take}
+use Rattle.entries.proofs.KeyLaws.{key-order, key-node, key-kind, key-child, key-parts}
+use Rattle.entries.proofs.EntryLaws.{length-rows, getD-rows, row-take}
 
 pub and-true : (b : Bool) → b && true ≡ b
 and-true true = refl
@@ -199,6 +199,32 @@ ending-key r h z =
     let t : Bool = eqb (kindOf (r .key)) 1 || eqb (childOf (r .key)) noChild in
     let c : t ≡ true = second-true (leb (r .count) maxCount) t (second-true (leb (kindOf (r .key)) 1) (leb (r .count) maxCount && t) h) in
     sym (key-parts (r .key)) ∙ ap₂ (keyOf (nodeOf (r .key))) z (eqb-true (childOf (r .key)) noChild (rw z at c))
+
+-- an entry in form is an ending or a child
+plain-kind : (r : Row) → plain r ≡ true → kindOf (r .key) ≤ 1
+unfolding plain
+plain-kind r h = leb-true (kindOf (r .key)) 1 (first-true (leb (kindOf (r .key)) 1) (leb (r .count) maxCount && (eqb (kindOf (r .key)) 1 || eqb (childOf (r .key)) noChild)) h)
+
+pub plain-sort : (r : Row) → plain r ≡ true → (r .key ≡ endKey (nodeOf (r .key))) ⊎ (kindOf (r .key) ≡ 1)
+plain-sort r h = go (kindOf (r .key)) refl
+  where
+    go : (k : ℕ) → kindOf (r .key) ≡ k → (r .key ≡ endKey (nodeOf (r .key))) ⊎ (kindOf (r .key) ≡ 1)
+    go zero e = inl (ending-key r h e)
+    go (suc k) e = inr (omega (arith, plain-kind r h))
+
+plain-after : (k : ℕ) (rs : List Row) → formedAfter k rs ≡ true → All (λ (r : Row). plain r ≡ true) rs
+unfolding formedAfter
+plain-after k [] h = tt
+plain-after k (r ∷ rs) h =
+    let f : Bool = follows k r in
+    (first-true (plain r) (f && formedAfter (r .key) rs) h, plain-after (r .key) rs (second-true f (formedAfter (r .key) rs) (second-true (plain r) (f && formedAfter (r .key) rs) h)))
+
+pub formed-plain : (rs : List Row) → formed rs ≡ true → All (λ (r : Row). plain r ≡ true) rs
+unfolding formed
+formed-plain [] h = tt
+formed-plain (r ∷ rs) h =
+    let e : Bool = eqb (kindOf (r .key)) 0 in
+    (first-true (plain r) (e && formedAfter (r .key) rs) h, plain-after (r .key) rs (second-true e (formedAfter (r .key) rs) (second-true (plain r) (e && formedAfter (r .key) rs) h)))
 
 -- ---- what the form reads: sizes, the used entries and the lengths of filled places
 

@@ -11,7 +11,7 @@ use lib.Dec.{ltb}
 use lib.ListN.{length}
 use borrow.Author.Tests.{ne-eqb, lt-ltb}
 use Rattle.priors.specs.Rows.{Row, row, keys, Ascends, look}
-use Rattle.book.specs.Keys.{endKey, childKey, nodeOf, kindOf}
+use Rattle.entries.specs.Keys.{endKey, childKey, nodeOf, kindOf}
 use Rattle.book.specs.Path.{Steps, listedKeys, countedKeys}
 use Rattle.book.specs.Recount.{occurrences, windowPart, counted, listing, rowsOf}
 use Rattle.book.specs.Figures.{total, AllRanks}

@@ -12,12 +12,14 @@ use Rattle.book.specs.Path.{Steps, pathOf}
 use Rattle.book.specs.Calls.{unlessRefused}
 use Rattle.book.specs.Recount.{beforeWindow, enterAll, listing}
 use Rattle.book.specs.Figures.{All, Whole, AllWhole, Ranks, AllRanks}
-use Rattle.book.specs.Claims.{BookCall, opening, add, tidy, Recount, since, openRefusal, addRefusal, restarted, joined, tidied, recountStep, InBytes}
+use Rattle.book.specs.Batches.{lentPath, placesIn, batched}
+use Rattle.book.specs.Claims.{BookCall, opening, add, addPaths, tidy, Recount, since, openRefusal, addRefusal, restarted, joined, joinedBy, tidied, recountStep, InBytes}
 use Rattle.priors.proofs.Tests.{both}
 use Rattle.book.proofs.PathLaws.{all-bytes, length-steps, steps-ranks}
 use Rattle.book.proofs.Window.{EndsWith, all-drop}
 use Rattle.book.proofs.BaseLaws.{drop-before, before-joined, drop-joined, ends-since}
 use Rattle.book.proofs.KeepLaws.{listing-shrinks}
+use Rattle.book.proofs.BatchLaws.{lent-bytes, batch-keeps}
 
 -- what an opening that is not refused tells
 pub record Sizes (window bookSize queueSize : ℕ) : Type 0 where
@@ -113,10 +115,14 @@ after-unless : (P : Recount → Type 0) (n : ℕ) (s r : Recount) → (n ≡ 0 �
 after-unless P zero s r f k = f refl
 after-unless P (suc n) s r f k = k
 
+pub early-batch : (r : Recount) (places : List ℕ) → Early r → (k : ℕ) → Early (batched addRefusal joinedBy r places k .left)
+early-batch r places e = batch-keeps addRefusal joinedBy r places Early e (λ s k h z. early-joined s h (pathOf (lentPath places k)))
+
 pub early-step : (r : Recount) (c : BookCall) → Early r → Early (recountStep r c .1)
 unfolding recountStep
 early-step r (opening w book queue) e = after-unless Early (openRefusal w (length book) (length queue)) (restarted w (length book) (length queue)) r (λ z. zero-le) e
 early-step r (add path) e = after-unless Early (addRefusal r path) (joined r (pathOf path)) r (λ z. early-joined r e (pathOf path)) e
+early-step r (addPaths places) e = early-batch r places e (placesIn places)
 early-step r tidy e = omega arith
 
 pub all-snoc : {X : Type 0} (P : X → Type 0) (xs : List X) (x : X) → All P xs → P x → All P (xs ++ x ∷ [])
@@ -150,10 +156,14 @@ kept-tidied r k = record {
   ranks = k .ranks;
 }
 
+pub kept-batch : (r : Recount) (places : List ℕ) → Kept r → All (λ b. b < 256) places → (k : ℕ) → Kept (batched addRefusal joinedBy r places k .left)
+kept-batch r places k bytes = batch-keeps addRefusal joinedBy r places Kept k (λ s j h z. kept-joined s (lentPath places j) h (lent-bytes places j bytes) (add-taken s (lentPath places j) z))
+
 pub kept-step : (r : Recount) (c : BookCall) → Kept r → InBytes c → Kept (recountStep r c .1)
 unfolding recountStep
 kept-step r (opening w book queue) k bytes =
     after-unless Kept (openRefusal w (length book) (length queue)) (restarted w (length book) (length queue)) r
     (λ e. kept-restarted w (length book) (length queue) (open-sizes w (length book) (length queue) e)) k
 kept-step r (add path) k bytes = after-unless Kept (addRefusal r path) (joined r (pathOf path)) r (λ e. kept-joined r path k bytes (add-taken r path e)) k
+kept-step r (addPaths places) k bytes = kept-batch r places k bytes (placesIn places)
 kept-step r tidy k bytes = kept-tidied r k

@@ -7,7 +7,7 @@ use mathlib.Core.List.{List, [], _∷_, _++_, flatMap, List·Permᴰ, List·Perm
 use mathlib.Core.Bool.{Bool, false, _&&_, _||_}
 use lib.Dec.{eqb}
 use lib.ListN.{length, length-append}
-use Rattle.book.specs.Keys.{endKey, childKey}
+use Rattle.entries.specs.Keys.{endKey, childKey}
 use Rattle.book.specs.Path.{Steps, listedKeys}
 use Rattle.book.specs.Recount.{occurrences, listing}
 use Rattle.book.specs.Figures.{All, total, Ranks, AllRanks, AllWhole}

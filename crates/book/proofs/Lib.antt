@@ -18,13 +18,6 @@ pub mod OnePass
 pub mod Loops
 pub mod Lengths
 pub mod DryRun
--- keys and entries in bytes:
-pub mod KeyLaws
-pub mod EntryLaws
-pub mod HalvingLaws
-pub mod GapLaws
-pub mod ChangeLaws
-pub mod BookLaws
 -- paths, the queue and the book in bytes:
 pub mod PathLaws
 pub mod Tiles
@@ -39,6 +32,10 @@ pub mod PassLaws
 pub mod PlaceLaws
 pub mod RoomLaws
 pub mod CallLaws
+-- what an add in a list of adds leans on and hands to the next:
+pub mod CountingLaws
+pub mod GoingLaws
+pub mod BatchLaws
 -- what a tidy keeps:
 pub mod AheadLaws
 pub mod TidyLaws
@@ -51,6 +48,7 @@ pub mod FormImage
 pub mod Simulation
 pub mod Claimed
 pub mod Corollaries
+pub mod FormKept
 pub mod MemoryLaws
 -- the definitions on small numbers:
 pub mod Examples

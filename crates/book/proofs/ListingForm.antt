@@ -7,20 +7,23 @@ use native.Mathlib.Omega.{arith}
 use mathlib.Core.List.{List, [], _∷_, _++_, flatMap}
 use Rattle.priors.specs.Rows.{Ascends, keys}
 use Rattle.priors.specs.Address.{lift, rank}
-use Rattle.book.specs.Keys.{keyOf, noChild, endKey, childKey, nodeOf, kindOf, childOf}
+use Rattle.entries.specs.Keys.{keyOf, noChild, endKey, childKey, nodeOf, kindOf, childOf}
 use Rattle.book.specs.Path.{Steps, listedKeys}
 use Rattle.book.specs.Recount.{listing, rowsOf}
 use Rattle.book.specs.Figures.{Ranks, AllRanks}
 use Rattle.priors.proofs.Ranks.{rank-lt}
 use Rattle.priors.proofs.Orders.{Side, below, same, above, side}
-use Rattle.book.proofs.KeyLaws.{key-node, key-kind, key-child}
+use Rattle.entries.proofs.KeyLaws.{key-node, key-kind, key-child}
 use Rattle.book.proofs.Passes.{FormedAfter, Formed}
 use Rattle.book.proofs.Membership.{In, in-tail, in-head, in-cons, in-append, in-left, in-right, in-none, in-above, in-listing, listing-in}
 use Rattle.book.proofs.Image.{keys-rows, ascends-listing}
 
+abbrev pub EndOrChild : ℕ → Type 0
+EndOrChild k = (k ≡ endKey (nodeOf k)) ⊎ (kindOf k ≡ 1)
+
 -- ---- the node of a key
 
-no-child-lt : noChild < 2 ^ 64
+pub no-child-lt : noChild < 2 ^ 64
 no-child-lt = rank-lt 0 0 (omega arith)
 
 pub node-end : (a : ℕ) → nodeOf (endKey a) ≡ a
@@ -47,15 +50,21 @@ pub end-below-child : (a b : ℕ) → endKey a < childKey a b
 unfolding endKey childKey keyOf rank lift
 end-below-child a b = omega arith
 
+-- an ending or a child is not below its node's ending
+child-above : (k : ℕ) → kindOf k ≡ 1 → endKey (nodeOf k) ≤ k
+unfolding endKey keyOf rank lift nodeOf kindOf
+child-above k e = omega arith
+
+pub below-itself : (k : ℕ) → EndOrChild k → endKey (nodeOf k) ≤ k
+below-itself k (inl e) = omega arith
+below-itself k (inr e) = child-above k e
+
 -- between a node's ending and a key of the node there are only keys of the node
 node-between : (a k : ℕ) → endKey (nodeOf k) ≤ a → a ≤ k → nodeOf a ≡ nodeOf k
 unfolding endKey keyOf rank lift nodeOf
 node-between a k h i = omega arith
 
 -- ---- whatever is listed, it is an ending or a child, its node is a rank, and its node's ending is listed and not above it
-
-abbrev pub EndOrChild : ℕ → Type 0
-EndOrChild k = (k ≡ endKey (nodeOf k)) ⊎ (kindOf k ≡ 1)
 
 record Ended (k : ℕ) (ks : List ℕ) : Type 0 where
   sort : EndOrChild k
@@ -142,6 +151,14 @@ formed-after a (x ∷ ks) h c = (h .0, begins (side (endKey (nodeOf x)) (suc a))
 formed-keys : (ks : List ℕ) → Ascends 0 ks → Closed 0 ks → Formed ks
 formed-keys [] h c = tt
 formed-keys (x ∷ ks) h c = (first-is-end 0 x ks h c zero-le, formed-after x ks (h .1) (closed-rest 0 x ks h c))
+
+-- where each key's node has its ending among them, and not above it
+closed-ends : (ks : List ℕ) → ((k : ℕ) → In k ks → (endKey (nodeOf k) ≤ k) × In (endKey (nodeOf k)) ks) → Closed 0 ks
+unfolding Closed
+closed-ends ks c k i = (c k i .0, λ l. c k i .1)
+
+pub formed-ends : (ks : List ℕ) → Ascends 0 ks → ((k : ℕ) → In k ks → (endKey (nodeOf k) ≤ k) × In (endKey (nodeOf k)) ks) → Formed ks
+formed-ends ks h c = formed-keys ks h (closed-ends ks c)
 
 pub formed-rows : (W : ℕ) (H L : List Steps) → AllRanks L → Formed (keys (rowsOf W H L))
 formed-rows W H L h = rw keys-rows (formed-keys (listing L) (ascends-listing L) (closed-listing L h))

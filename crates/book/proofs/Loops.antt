@@ -7,7 +7,7 @@ use mathlib.Core.List.{List}
 use lib.ListN.{length, getD, drop}
 use lib.Seq.{drop-cons, drop-length}
 use Rattle.priors.specs.Rows.{Row, touch, bump, fade}
-use Rattle.book.specs.Keys.{endKey, childKey}
+use Rattle.entries.specs.Keys.{endKey, childKey}
 use Rattle.book.specs.Path.{Steps, countedKeys}
 use Rattle.book.specs.Changes.{changeAll, fadeAll}
 use Rattle.book.proofs.Passes.{onePass}

@@ -13,7 +13,7 @@ use lib.Dec.{eqb}
 use borrow.Author.Tests.{eq-eqb, ne-eqb}
 use Rattle.priors.specs.Rows.{Row, look}
 use Rattle.priors.specs.Address.{lift, rank}
-use Rattle.book.specs.Keys.{keyOf, endKey, childKey}
+use Rattle.entries.specs.Keys.{keyOf, endKey, childKey}
 use Rattle.book.specs.Path.{Steps, listedKeys, countedKeys}
 use Rattle.book.specs.Recount.{occurrences, windowPart, counted, rowsOf}
 use Rattle.book.specs.Figures.{total, transitions, endings, Ranks, AllRanks, Listed, Somewhere}

@@ -10,10 +10,10 @@ use lib.Dec.{leb, eqb}
 use lib.ListN.{length, drop, length-append}
 use borrow.Author.Tests.{le-leb, eq-eqb}
 use Rattle.book.specs.Path.{Steps, stepBytes}
-use Rattle.book.specs.Calls.{unlessRefused}
+use Rattle.book.specs.Calls.{Machine, unlessRefused}
 use Rattle.book.specs.Recount.{listing}
 use Rattle.book.specs.Figures.{All, Whole, AllWhole, Ranks, AllRanks}
-use Rattle.book.specs.Claims.{opening, add, runs, Machine, bookStep, Recount, since, openRefusal, addRefusal, restarted, joined, image, recountStep, InBytes}
+use Rattle.book.specs.Claims.{opening, add, runs, bookStep, Recount, since, openRefusal, addRefusal, restarted, joined, image, recountStep, InBytes}
 use Rattle.book.specs.Memory.{among, least, adds, numbers, AllTaken, SomeTwelve}
 use Rattle.book.proofs.PathLaws.{path-back, steps-in-bytes}
 use Rattle.book.proofs.RefusalLaws.{add-fits}

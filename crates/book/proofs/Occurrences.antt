@@ -7,7 +7,7 @@ use mathlib.Core.Bool.{Bool, true, false, cond}
 use native.Mathlib.Omega.{arith}
 use lib.Dec.{eqb}
 use lib.ListN.{take, drop, take-append-drop}
-use Rattle.book.specs.Keys.{endKey, childKey}
+use Rattle.entries.specs.Keys.{endKey, childKey}
 use Rattle.book.specs.Path.{Steps, listedKeys, countedKeys}
 use Rattle.book.specs.Recount.{occurrences}
 

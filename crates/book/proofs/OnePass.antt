@@ -7,7 +7,7 @@ use mathlib.Core.Option.{Option, none, some}
 use mathlib.Core.Bool.{Bool, true, false, cond}
 use lib.Dec.{eqb}
 use Rattle.priors.specs.Rows.{Row, keys, Ascends, look, change, touch, bump}
-use Rattle.book.specs.Keys.{endKey, childKey}
+use Rattle.entries.specs.Keys.{endKey, childKey}
 use Rattle.book.specs.Path.{Steps, listedKeys, countedKeys}
 use Rattle.book.specs.Changes.{changeAll, touchAll, bumpAll}
 use Rattle.priors.proofs.RowLaws.{after, afterTouch, afterBump, look-change, ascends-change}

@@ -12,18 +12,17 @@ use lib.Seq.{drop-drop}
 use Rattle.priors.specs.Rows.{Row, keys, Ascends, look, touch, bump, fade}
 use Rattle.priors.proofs.RowLaws.{gained, ascends-change, length-touch, grows}
 use Rattle.priors.proofs.ByPlace.{Spot, spot-moved}
-use Rattle.book.specs.Limits.{maxCount}
-use Rattle.book.specs.Keys.{endKey, childKey}
+use Rattle.entries.specs.Keys.{endKey, childKey}
 use Rattle.book.specs.Path.{Steps, pathOf, listedKeys, countedKeys}
-use Rattle.book.specs.Entries.{rows, Rewritten}
-use Rattle.book.specs.Changes.{CountsUpTo, EndingsListed, touchAll, bumpAll, fadeAll}
+use Rattle.entries.specs.Entries.{rows, Rewritten, CountsUpTo}
+use Rattle.book.specs.Changes.{EndingsListed, touchAll, bumpAll, fadeAll}
 use Rattle.book.proofs.Passes.{onePass}
 use Rattle.book.proofs.OnePass.{one-pass}
 use Rattle.book.proofs.Loops.{pass-on, pass-last, fade-on, fade-last}
 use Rattle.book.proofs.Lengths.{length-pass, pass-grows}
 use Rattle.book.proofs.EndingLaws.{pair-keeps}
-use Rattle.book.proofs.EntryLaws.{length-rows}
-use Rattle.book.proofs.BookLaws.{counts-change}
+use Rattle.entries.proofs.EntryLaws.{length-rows}
+use Rattle.entries.proofs.BookLaws.{counts-change}
 
 -- ---- one change after another
 
@@ -74,11 +73,11 @@ pub record Passing (s₀ : List ℕ) (n₀ : ℕ) (p : Steps) (s : List ℕ) (n 
   pub rest-is : drop (24 * n) s ≡ drop (24 * n) s₀
   pub ascends : Ascends 0 (keys (rows s n))
   pub endings-listed : EndingsListed (rows s n)
-  pub counts-fit : CountsUpTo (maxCount + i) (rows s n)
+  pub counts-fit : CountsUpTo (2 ^ 31 + i) (rows s n)
   pub left : onePass (drop i p) (rows s n) ≡ onePass p (rows s₀ n₀)
 
 module _ (s₀ : List ℕ) (n₀ : ℕ) (p : Steps) (room : 24 * length (onePass p (rows s₀ n₀)) ≤ length s₀) where
-  pub passing-start : 24 * n₀ ≤ length s₀ → Ascends 0 (keys (rows s₀ n₀)) → EndingsListed (rows s₀ n₀) → CountsUpTo maxCount (rows s₀ n₀) → Passing s₀ n₀ p s₀ n₀ 0
+  pub passing-start : 24 * n₀ ≤ length s₀ → Ascends 0 (keys (rows s₀ n₀)) → EndingsListed (rows s₀ n₀) → CountsUpTo (2 ^ 31) (rows s₀ n₀) → Passing s₀ n₀ p s₀ n₀ 0
   passing-start f a e c = record { same-length = refl; fits = f; rest-is = refl; ascends = a; endings-listed = e; counts-fit = c; left = refl }
 
   module _ (s : List ℕ) (n i : ℕ) (so-far : Passing s₀ n₀ p s n i) where
@@ -102,9 +101,9 @@ module _ (s₀ : List ℕ) (n₀ : ℕ) (p : Steps) (room : 24 * length (onePass
           let t : List Row = touch (endKey a) (rows s n) in
           let below : n ≤ n′ = omega (arith, grows (some 0) (λ c. c) (endKey a) (rows s n), grows (some 1) (λ c. c + 1) (childKey a b) t, r .number-is, length-rows s n) in
           let asc : Ascends 0 (keys next) = ascends-change (some 1) (λ c. c + 1) (childKey a b) 0 t zero-le (ascends-change (some 0) (λ c. c) (endKey a) 0 (rows s n) zero-le (so-far .ascends)) in
-          let m : ℕ = maxCount + i in
-          let counted : CountsUpTo (maxCount + (i + 1)) next =
-          counts-change m (maxCount + (i + 1)) 1 (λ c. c + 1) (childKey a b) t (omega arith) (omega arith) (λ d l. omega arith)
+          let m : ℕ = 2 ^ 31 + i in
+          let counted : CountsUpTo (2 ^ 31 + (i + 1)) next =
+          counts-change m (2 ^ 31 + (i + 1)) 1 (λ c. c + 1) (childKey a b) t (omega arith) (omega arith) (λ d l. omega arith)
           (counts-change m m 0 (λ c. c) (endKey a) (rows s n) (omega arith) (omega arith) (λ d l. l) (so-far .counts-fit)) in
           record {
             same-length = len ∙ so-far .same-length;

@@ -9,7 +9,7 @@ use mathlib.Core.Bool.{cond}
 use lib.Dec.{leb}
 use lib.ListN.{length, getD}
 use Rattle.priors.specs.Rows.{Row, look, touch, bump}
-use Rattle.book.specs.Keys.{endKey, childKey, nodeOf}
+use Rattle.entries.specs.Keys.{endKey, childKey, nodeOf}
 use Rattle.book.specs.Path.{Steps}
 use Rattle.book.specs.Recount.{occurrences}
 

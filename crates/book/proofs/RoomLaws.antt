@@ -16,10 +16,10 @@ use Rattle.priors.specs.Search.{blank, place, holds}
 use Rattle.priors.proofs.Ranks.{Bytes, rankAt-lt}
 use Rattle.priors.proofs.RowLaws.{look-other, length-touch, gained}
 use Rattle.priors.proofs.ByPlace.{look-place}
-use Rattle.book.specs.declared.entries.Found.the-variants.{At, Missing}
-use Rattle.book.specs.Keys.{endKey, childKey}
+use Rattle.entries.specs.declared.entries.Found.the-variants.{At, Missing}
+use Rattle.entries.specs.Keys.{endKey, childKey}
 use Rattle.book.specs.Path.{Steps, pathOf, listedKeys}
-use Rattle.book.specs.Entries.{rows, findIn}
+use Rattle.entries.specs.Entries.{rows, findIn}
 use Rattle.book.specs.Figures.{Listed}
 use Rattle.book.specs.Changes.{changeAll, touchAll, EndingsListed}
 use Rattle.book.specs.Recount.{occurrences}
@@ -29,7 +29,7 @@ use Rattle.book.proofs.Occurrences.{hit, occ-nil, occ-cons, occ-append}
 use Rattle.book.proofs.ListingForm.{end-below-child}
 use Rattle.book.proofs.DryRun.{changeAll-snoc, gained-next, length-next}
 use Rattle.book.proofs.EndingLaws.{ending-listed, pairs-keep}
-use Rattle.book.proofs.EntryLaws.{length-rows}
+use Rattle.entries.proofs.EntryLaws.{length-rows}
 use Rattle.book.proofs.PathLaws.{length-steps, steps-ranks}
 use Rattle.book.proofs.StepLaws.{getD-steps, step-at, length-listed, listed-ending, listed-child}
 

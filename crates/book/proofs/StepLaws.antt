@@ -13,8 +13,8 @@ use Rattle.priors.specs.Word.{word}
 use Rattle.priors.specs.Address.{rank, rankAt}
 use Rattle.priors.proofs.BelowLaws.{first-true, second-true}
 use Rattle.priors.proofs.Fields.{word-drop, word-take}
-use Rattle.book.specs.Limits.{maxSteps}
-use Rattle.book.specs.Keys.{endKey, childKey}
+use Rattle.entries.specs.Limits.{maxSteps}
+use Rattle.entries.specs.Keys.{endKey, childKey}
 use Rattle.book.specs.Path.{Steps, stepsOf, pathOf, wholePath, listedKeys}
 use Rattle.book.specs.Calls.{stepsAt}
 use Rattle.book.proofs.PathLaws.{length-steps}

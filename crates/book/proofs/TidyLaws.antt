@@ -12,18 +12,18 @@ use borrow.Author.Tests.{eq-eqb, ne-eqb, lt-ltb}
 use Rattle.priors.specs.Word.{word, store}
 use Rattle.priors.specs.Address.{rankAt}
 use Rattle.priors.specs.Rows.{Row, row}
-use Rattle.book.specs.declared.keys.Key.{Key}
-use Rattle.book.specs.Keys.{nodeOf, kindOf, keyValue}
-use Rattle.book.specs.Entries.{fieldsAt, keyAt, rowAt, rows, rowBytes, bytesOf}
+use Rattle.entries.specs.declared.keys.Key.{Key}
+use Rattle.entries.specs.Keys.{nodeOf, kindOf, keyValue}
+use Rattle.entries.specs.Entries.{fieldsAt, keyAt, rowAt, rows, rowBytes, bytesOf}
 use Rattle.book.specs.Form.{formed}
 use Rattle.book.specs.Calls.{zeros, bookOf}
 use Rattle.book.specs.Tidy.{kept}
 use Rattle.book.specs.Ahead.{countsAhead, firstStays, keptAhead, rowsFrom, Moved, Turned}
 use Rattle.priors.proofs.Ranks.{Bytes, word-lt, rankAt-lt}
-use Rattle.book.proofs.KeyLaws.{key-node, key-kind}
-use Rattle.book.proofs.EntryLaws.{row-drop, length-rows, rows-append, rows-front, rows-cons, length-rowBytes, length-bytesOf, bytesOf-rows, InRange}
+use Rattle.entries.proofs.KeyLaws.{key-node, key-kind}
+use Rattle.entries.proofs.EntryLaws.{row-drop, length-rows, rows-append, rows-front, rows-cons, length-rowBytes, length-bytesOf, bytesOf-rows, InRange}
 use Rattle.book.proofs.FormLaws.{row-read}
-use Rattle.book.proofs.BookLaws.{key-in-range}
+use Rattle.entries.proofs.BookLaws.{key-in-range}
 use Rattle.book.proofs.AheadLaws.{kept-ahead}
 
 -- ---- the row at a place

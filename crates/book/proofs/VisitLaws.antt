@@ -11,7 +11,7 @@ use lib.Dec.{eqb}
 use lib.ListN.{length}
 use Rattle.priors.specs.Rows.{row}
 use Rattle.priors.specs.Priors.{countSum}
-use Rattle.book.specs.Keys.{nodeOf}
+use Rattle.entries.specs.Keys.{nodeOf}
 use Rattle.book.specs.Path.{Steps, countedKeys}
 use Rattle.book.specs.Recount.{occurrences, windowPart, counted, listing, rowsOf}
 use Rattle.book.specs.Figures.{total, endings, Ranks, AllRanks, Somewhere}

@@ -8,7 +8,7 @@ use mathlib.Core.Option.{Option, none, some}
 use mathlib.Core.Bool.{Bool, true, false, cond}
 use native.Mathlib.Omega.{arith}
 use lib.Dec.{leb}
-use lib.ListN.{length, getD, drop, length-append, length-drop}
+use lib.ListN.{length, getD, take, drop, length-append, length-drop}
 use lib.Seq.{drop-cons, drop-append-le}
 use borrow.Author.Tests.{leb-true, leb-false}
 use Rattle.book.specs.Path.{Steps, listedKeys, countedKeys}
@@ -75,6 +75,11 @@ pub all-drop : {X : Type 0} (P : X → Type 0) (n : ℕ) (xs : List X) → All P
 all-drop P zero xs h = h
 all-drop P (suc n) [] h = h
 all-drop P (suc n) (x ∷ xs) h = all-drop P n xs (h .1)
+
+pub all-take : {X : Type 0} (P : X → Type 0) (n : ℕ) (xs : List X) → All P xs → All P (take n xs)
+all-take P zero xs h = tt
+all-take P (suc n) [] h = tt
+all-take P (suc n) (x ∷ xs) h = (h .0, all-take P n xs (h .1))
 
 -- what the window part counts is listed
 pub counted-le : (W : ℕ) (H L : List Steps) → EndsWith W H L → (k : ℕ) → counted W H k ≤ occurrences k (flatMap listedKeys L)

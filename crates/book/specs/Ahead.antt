@@ -7,9 +7,9 @@ use mathlib.Core.Bool.{Bool, false, cond, _&&_, _||_}
 use lib.Dec.{ltb, eqb}
 use lib.ListN.{drop}
 use Rattle.priors.specs.Rows.{Row}
-use Rattle.book.specs.Limits.{entrySize}
-use Rattle.book.specs.Keys.{nodeOf, kindOf}
-use Rattle.book.specs.Entries.{rowAt, rows}
+use Rattle.entries.specs.Limits.{entrySize}
+use Rattle.entries.specs.Keys.{nodeOf, kindOf}
+use Rattle.entries.specs.Entries.{rowAt, rows}
 
 -- of the rows in front that are of the node n, some counts
 unfoldable pub countsAhead : ℕ → List Row → Bool

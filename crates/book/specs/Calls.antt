@@ -1,6 +1,7 @@
--- What an opening and an add answer, and what they leave in the lent book and queue. A number is a refusal's; 0 is none. A tidy is in `Tidy`. Assumes nothing.
+-- What an opening and an add answer, and what they leave in the lent book and queue. A number is a refusal's; 0 is none. A list of paths is in
+-- `Batches`, a tidy in `Tidy`. Assumes nothing.
 use mathlib.Core.Path.{_≡_}
-use Prim.Native.Nat.{ℕ, zero, suc, _+_, _-_, _*_, _%_, _/_, _≤_, _<_}
+use Prim.Native.Nat.{ℕ, zero, suc, _+_, _-_, _*_, _%_, _/_, _^_, _≤_, _<_}
 use mathlib.Core.Bool.{true, cond, _&&_}
 use mathlib.Core.List.{List, [], _∷_, _++_}
 use mathlib.Core.Option.{Option, none, some}
@@ -8,18 +9,18 @@ use lib.Dec.{ltb, leb}
 use lib.ListN.{length, drop, replicate}
 use Rattle.priors.specs.Word.{word, wordBytes, store}
 use Rattle.priors.specs.Rows.{Row, keys, Ascends}
-use Rattle.priors.specs.Rules.{rule, firstBroken}
+use Rattle.priors.specs.Rules.{Rule, rule, firstBroken}
 use Rattle.priors.specs.Refusals.{numberOf}
 use Rattle.book.specs.declared.trackers.Tracker.{Tracker}
 use Rattle.book.specs.declared.trackers.Opened.{Opened}
 use Rattle.book.specs.declared.trackers.Opened.the-variants.{Fresh, Refused as NotOpened}
 use Rattle.book.specs.declared.trackers.Changed.{Changed}
 use Rattle.book.specs.declared.trackers.Changed.the-variants.{Done, Refused as NotDone}
-use Rattle.book.specs.Limits.{maxWindow, maxAccepted, maxCount, maxSteps, entrySize, stepSize, placeSize}
-use Rattle.book.specs.Entries.{rows, bytesOf}
+use Rattle.entries.specs.Limits.{maxWindow, maxAccepted, maxSteps, entrySize, stepSize, placeSize}
+use Rattle.entries.specs.Entries.{rows, bytesOf, CountsUpTo}
 use Rattle.book.specs.Path.{Steps, stepsOf, pathOf, wholePath, listedKeys}
 use Rattle.book.specs.Form.{capacity, bookFits, queueFits, lengthsFit, filled, inForm}
-use Rattle.book.specs.Changes.{touchAll, addRows, CountsUpTo, EndingsListed}
+use Rattle.book.specs.Changes.{touchAll, addRows, EndingsListed}
 
 abbrev pub zeros : ℕ → List ℕ
 zeros n = replicate n 0
@@ -30,11 +31,18 @@ bookOf rs size = bytesOf rs ++ zeros (size - length (bytesOf rs))
 
 -- ---- answers
 
--- what a call that may change a tracker answers and leaves: the refusal's number, 0 for none; the state that comes back, which a refused opening gives none of; and
--- what it was lent as book and queue, as they are afterwards
+-- what a user has of a tracker: the state, and the book and the queue that are lent with it
+pub record Machine : Type 0 where
+  pub state : Tracker
+  pub book : List ℕ
+  pub queue : List ℕ
+
+-- what a call that may change a tracker answers and leaves: the refusal's number, 0 for none; the state that comes back, which a refused opening gives none of; how
+-- many paths were taken, which a list of paths alone tells; and what it was lent as book and queue, as they are afterwards
 pub record BookAnswer : Type 0 where
   pub number : ℕ
   pub state : Option Tracker
+  pub taken : Option ℕ
   pub book : List ℕ
   pub queue : List ℕ
 
@@ -48,7 +56,7 @@ openedState (NotOpened r) = none
 
 -- what the code's answer and the lent book and queue afterwards come to
 abbrev pub openedAnswer : Opened → List ℕ → List ℕ → BookAnswer
-openedAnswer a book queue = record { number = openedNumber a; state = openedState a; book = book; queue = queue }
+openedAnswer a book queue = record { number = openedNumber a; state = openedState a; taken = none; book = book; queue = queue }
 
 abbrev pub changedNumber : Changed → ℕ
 changedNumber (Done t) = 0
@@ -59,7 +67,7 @@ changedState (Done t) = t
 changedState (NotDone r t) = t
 
 abbrev pub changedAnswer : Changed → List ℕ → List ℕ → BookAnswer
-changedAnswer a book queue = record { number = changedNumber a; state = some (changedState a); book = book; queue = queue }
+changedAnswer a book queue = record { number = changedNumber a; state = some (changedState a); taken = none; book = book; queue = queue }
 
 -- x where nothing is refused, else y
 abbrev pub unlessRefused {ℓ} : {X : Type ℓ} → ℕ → X → X → X
@@ -89,6 +97,7 @@ abbrev pub openAnswer : ℕ → List ℕ → List ℕ → BookAnswer
 openAnswer window book queue = record {
   number = openNumber window book queue;
   state = openState window book queue;
+  taken = none;
   book = openBook window book queue;
   queue = openQueue window book queue;
 }
@@ -111,14 +120,16 @@ leaving t queue = cond (leb 1 (t .window) && leb (t .window) (t .accepted)) (som
 abbrev pub listedRows : Tracker → List ℕ → List ℕ → List Row
 listedRows t book path = touchAll (listedKeys (pathOf path)) (rows book (t .used))
 
-unfoldable pub addNumber : Tracker → List ℕ → List ℕ → List ℕ → ℕ
-addNumber t book queue path =
-    firstBroken
-    (rule 9 (inForm t book queue)
-    ∷ rule 10 (wholePath path)
+-- the tests behind that of the form
+abbrev pub pathRules : Tracker → List ℕ → List ℕ → List Rule
+pathRules t book path =
+    rule 10 (wholePath path)
     ∷ rule 11 (ltb (t .accepted) maxAccepted)
     ∷ rule 12 (leb (length (listedRows t book path)) (capacity book))
-    ∷ [])
+    ∷ []
+
+unfoldable pub addNumber : Tracker → List ℕ → List ℕ → List ℕ → ℕ
+addNumber t book queue path = firstBroken (rule 9 (inForm t book queue) ∷ pathRules t book path)
 
 -- the rows afterwards
 unfoldable pub rowsAfter : Tracker → List ℕ → List ℕ → List ℕ → List Row
@@ -155,24 +166,7 @@ abbrev pub addAnswer : Tracker → List ℕ → List ℕ → List ℕ → BookAn
 addAnswer t book queue path = record {
   number = addNumber t book queue path;
   state = some (addState t book queue path);
+  taken = none;
   book = addBook t book queue path;
   queue = addQueue t book queue path;
 }
-
--- ---- what an add leans on once no test turns it back
-
--- there is a place for each path of the window, and the filled ones hold paths
-pub record Leaves (t : Tracker) (queue : List ℕ) : Type 0 where
-  pub places-fit : placeSize * t .window ≤ length queue
-  pub lengths-fit : lengthsFit queue (filled t) ≡ true
-
-pub record Ready (t : Tracker) (book queue path : List ℕ) : Type 0 where
-  pub book-fits : bookFits book ≡ true
-  pub used-fit : entrySize * t .used ≤ length book
-  pub ascends : Ascends 0 (keys (rows book (t .used)))
-  pub endings-listed : EndingsListed (rows book (t .used))
-  pub counts-fit : CountsUpTo maxCount (rows book (t .used))
-  pub queue-fits : Leaves t queue
-  pub path-whole : wholePath path ≡ true
-  pub not-last : t .accepted < maxAccepted
-  pub room : length (listedRows t book path) ≤ capacity book

@@ -3,7 +3,7 @@ use Prim.Native.Nat.{ℕ, _+_, _-_, _≤_}
 use mathlib.Core.List.{List, [], _∷_}
 use mathlib.Core.Option.{Option, none, some}
 use Rattle.priors.specs.Rows.{Row, change}
-use Rattle.book.specs.Keys.{endKey, nodeOf}
+use Rattle.entries.specs.Keys.{endKey, nodeOf}
 use Rattle.book.specs.Path.{Steps, listedKeys, countedKeys}
 use Rattle.book.specs.Figures.{Listed}
 
@@ -32,11 +32,6 @@ leftKeys (some l) = countedKeys l
 -- the path p is added, then l is taken away
 unfoldable pub addRows : Steps → Option Steps → List Row → List Row
 addRows p l rs = fadeAll (leftKeys l) (bumpAll (countedKeys p) (touchAll (listedKeys p) rs))
-
--- no count is above m
-abbrev pub CountsUpTo : ℕ → List Row → Type 0
-CountsUpTo m [] = Unit {0}
-CountsUpTo m (r ∷ rs) = (r .count ≤ m) × CountsUpTo m rs
 
 -- whatever key has a row, its node's ending has one
 abbrev pub EndingsListed : List Row → Type 0

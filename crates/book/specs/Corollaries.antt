@@ -1,30 +1,31 @@
--- What the claim comes to without the recount (`Corollary` of divergence): W, H and L are read off the calls and the numbers that they were answered. The book then
+-- What the claim comes to without the recount (`Corollary` of divergence): W, H and L are read off the calls and what they were answered. The book then
 -- tells which transitions and nodes stand in L, and how often in the window part of H; what goes in comes out, a node's counts together being its visits; 12 counts what
--- L and the path list. Then what single calls leave, and what the form reads. Assumes nothing.
+-- L and the path list. Then what single calls leave, what a list of paths is, and what the form reads. Assumes nothing.
 use Prim.Native.Nat.{ℕ, suc, _+_, _*_, _^_, _<_, _≤_}
 use mathlib.Core.Path.{_≡_}
 use mathlib.Core.Logic.{_↔_}
 use mathlib.Core.List.{List, [], _∷_, _++_}
-use mathlib.Core.Option.{some}
-use mathlib.Core.Bool.{cond}
+use mathlib.Core.Option.{Option, none, some}
+use mathlib.Core.Bool.{true, false, cond}
 use lib.Dec.{leb}
 use lib.ListN.{length, take}
 use Rattle.priors.specs.Word.{word}
 use Rattle.priors.specs.Rows.{Row, countOf}
 use Rattle.priors.specs.Priors.{countSum}
 use Rattle.book.specs.declared.trackers.Tracker.{Tracker}
-use Rattle.book.specs.Limits.{maxAccepted, entrySize, placeSize}
-use Rattle.book.specs.Keys.{endKey, childKey}
-use Rattle.book.specs.Entries.{rows}
+use Rattle.entries.specs.Limits.{maxAccepted, maxCount, entrySize, placeSize}
+use Rattle.entries.specs.Keys.{endKey, childKey}
+use Rattle.entries.specs.Entries.{rows, CountsUpTo}
 use Rattle.book.specs.Path.{Steps, pathOf, stepBytes}
 use Rattle.book.specs.Form.{capacity, filled, inForm}
-use Rattle.book.specs.Calls.{BookAnswer, zeros, unlessRefused, fresh, openNumber, openBook, openQueue, addNumber}
+use Rattle.book.specs.Calls.{Machine, BookAnswer, zeros, unlessRefused, fresh, openNumber, openBook, openQueue, addNumber}
+use Rattle.book.specs.Batches.{placesIn, lentPaths, nothingTried, batched, nextNumber, withPath, batchOf}
 use Rattle.book.specs.Tidy.{tidyNumber}
 use Rattle.book.specs.Recount.{occurrences, windowPart}
 use Rattle.book.specs.Figures.{All, Ranks, Whole, total, transitions, endings, Somewhere}
 use Rattle.book.specs.Visits.{visits, evidenceTotal}
 use Rattle.book.specs.Memory.{least}
-use Rattle.book.specs.Claims.{BookCall, opening, add, tidy, Machine, bookStep}
+use Rattle.book.specs.Claims.{BookCall, opening, add, addPaths, tidy, bookStep}
 
 -- ---- what was accepted and what lists, told from calls and answers
 
@@ -39,20 +40,31 @@ pub record Heard : Type 0 where
 abbrev pub nothingHeard : Heard
 nothingHeard = record { window = 0; paths = []; lists = [] }
 
--- after one more call, by its number; a refused one changes nothing
-abbrev pub heardWith : Heard → BookCall → ℕ → Heard
-heardWith h (opening window book queue) n = unlessRefused n (record { window = window; paths = []; lists = [] }) h
-heardWith h (add path) n = unlessRefused n (record { window = h .window; paths = h .paths ++ pathOf path ∷ []; lists = h .lists ++ pathOf path ∷ [] }) h
-heardWith h tidy n = unlessRefused n (record { window = h .window; paths = h .paths; lists = windowPart (h .window) (h .paths) }) h
+-- these paths are accepted, and list
+abbrev pub heardMore : Heard → List Steps → Heard
+heardMore h ps = record { window = h .window; paths = h .paths ++ ps; lists = h .lists ++ ps }
+
+-- as many of the lent places as are told taken
+abbrev pub heardTaken : Heard → List ℕ → Option ℕ → Heard
+heardTaken h places none = h
+heardTaken h places (some n) = heardMore h (lentPaths places n)
+
+-- after one more call, by its answer; a refused one changes nothing, but for the paths that a list of paths took before
+abbrev pub heardWith : Heard → BookCall → BookAnswer → Heard
+heardWith h (opening window book queue) a = unlessRefused (a .number) (record { window = window; paths = []; lists = [] }) h
+heardWith h (add path) a = unlessRefused (a .number) (heardMore h (pathOf path ∷ [])) h
+heardWith h (addPaths places) a = heardTaken h places (a .taken)
+heardWith h tidy a = unlessRefused (a .number) (record { window = h .window; paths = h .paths; lists = windowPart (h .window) (h .paths) }) h
 
 unfoldable pub heardOf : Heard → List BookCall → List BookAnswer → Heard
 heardOf h [] answers = h
 heardOf h (call ∷ calls) [] = h
-heardOf h (call ∷ calls) (answer ∷ answers) = heardOf (heardWith h call (answer .number)) calls answers
+heardOf h (call ∷ calls) (answer ∷ answers) = heardOf (heardWith h call answer) calls answers
 
 abbrev pub NoTidy : BookCall → Type 0
 NoTidy (opening window book queue) = Unit {0}
 NoTidy (add path) = Unit {0}
+NoTidy (addPaths places) = Unit {0}
 NoTidy tidy = ⊥
 
 -- where all paths list and no tidy comes, all list afterwards
@@ -119,6 +131,35 @@ RefusedAddLeavesAll =
 
 abbrev pub RefusedTidyLeavesAll : Type 0
 RefusedTidyLeavesAll = (m : Machine) (n : ℕ) → tidyNumber (m .state) (m .book) (m .queue) ≡ suc n → bookStep m tidy .1 ≡ m
+
+-- ---- a list of paths, in memory as anybody left it
+
+-- out of form it changes nothing
+abbrev pub UnformedBatchLeavesAll : Type 0
+UnformedBatchLeavesAll = (m : Machine) (places : List ℕ) → inForm (m .state) (m .book) (m .queue) ≡ false → batchOf m places ≡ nothingTried 9 m
+
+-- in form it leaves what the places that it took leave by themselves
+abbrev pub BatchKeepsWhatItTook : Type 0
+BatchKeepsWhatItTook =
+    (m : Machine) (places : List ℕ) → inForm (m .state) (m .book) (m .queue) ≡ true
+    → let b = batchOf m places in batched nextNumber withPath m places (b .taken) ≡ record { number = 0; taken = b .taken; left = b .left }
+
+-- of the form it leaves all but the counts' bound
+abbrev pub BatchKeepsForm : Type 0
+BatchKeepsForm =
+    (m : Machine) (places : List ℕ) → All (λ b. b < 256) (m .book) → All (λ b. b < 256) places → inForm (m .state) (m .book) (m .queue) ≡ true
+    → let left = batchOf m places .left in CountsUpTo maxCount (entriesOf left) → inForm (left .state) (left .book) (left .queue) ≡ true
+
+-- the number of a whole single add, with its test of the form
+abbrev pub singleNumber : Machine → List ℕ → ℕ
+singleNumber m path = addNumber (m .state) (m .book) (m .queue) path
+
+-- in form, and where before each place no count has passed 2 ^ 30, it is whole single adds, one after another up to the first that is refused
+abbrev pub BatchIsSingleAdds : Type 0
+BatchIsSingleAdds =
+    (m : Machine) (places : List ℕ) → All (λ b. b < 256) (m .book) → All (λ b. b < 256) places → inForm (m .state) (m .book) (m .queue) ≡ true
+    → ((k : ℕ) → k < placesIn places → CountsUpTo maxCount (entriesOf (batched nextNumber withPath m places k .left)))
+    → batchOf m places ≡ batched singleNumber (λ s path. bookStep s (add path) .1) m places (placesIn places)
 
 -- ---- the form
 

@@ -8,7 +8,7 @@ use mathlib.Core.Bool.{cond, _&&_}
 use lib.Dec.{eqb}
 use lib.ListN.{length}
 use Rattle.priors.specs.Rows.{Row, look}
-use Rattle.book.specs.Limits.{maxSteps}
+use Rattle.entries.specs.Limits.{maxSteps}
 use Rattle.book.specs.Path.{Steps}
 
 -- a figure of each path, summed over a list of paths

@@ -8,9 +8,9 @@ use lib.ListN.{length}
 use Rattle.priors.specs.Word.{word}
 use Rattle.priors.specs.Rows.{Row}
 use Rattle.book.specs.declared.trackers.Tracker.{Tracker}
-use Rattle.book.specs.Limits.{maxWindow, maxEntries, maxAccepted, maxCount, maxSteps, entrySize, placeSize}
-use Rattle.book.specs.Keys.{noChild, nodeOf, kindOf, childOf}
-use Rattle.book.specs.Entries.{rows}
+use Rattle.entries.specs.Limits.{maxWindow, maxEntries, maxAccepted, maxCount, maxSteps, entrySize, placeSize}
+use Rattle.entries.specs.Keys.{noChild, nodeOf, kindOf, childOf}
+use Rattle.entries.specs.Entries.{rows}
 
 -- ---- sizes: what 9 says of lent memory
 

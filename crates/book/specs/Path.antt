@@ -5,8 +5,8 @@ use mathlib.Core.Bool.{Bool, _&&_}
 use lib.Dec.{eqb, leb}
 use lib.ListN.{length, drop}
 use Rattle.priors.specs.Address.{rankAt, addressBytes}
-use Rattle.book.specs.Limits.{stepSize, maxSteps}
-use Rattle.book.specs.Keys.{endKey, childKey}
+use Rattle.entries.specs.Limits.{stepSize, maxSteps}
+use Rattle.entries.specs.Keys.{endKey, childKey}
 
 abbrev pub Steps : Type 0
 Steps = List ℕ

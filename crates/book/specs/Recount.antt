@@ -8,7 +8,7 @@ use lib.Dec.{eqb}
 use lib.ListN.{length, drop}
 use Rattle.priors.specs.Word.{wordBytes}
 use Rattle.priors.specs.Rows.{Row, row, choose}
-use Rattle.book.specs.Limits.{maxSteps, stepSize, placeSize}
+use Rattle.entries.specs.Limits.{maxSteps, stepSize, placeSize}
 use Rattle.book.specs.Path.{Steps, stepBytes, listedKeys, countedKeys}
 use Rattle.book.specs.Calls.{zeros, bookOf}
 

@@ -2,15 +2,15 @@
 -- altered by others. Assumes nothing.
 use Prim.Native.Nat.{ℕ}
 use mathlib.Core.List.{List, [], _∷_}
-use mathlib.Core.Option.{some}
+use mathlib.Core.Option.{none, some}
 use mathlib.Core.Bool.{Bool, cond}
 use lib.Dec.{ltb, eqb}
 use lib.ListN.{length}
 use Rattle.priors.specs.Rows.{Row}
 use Rattle.priors.specs.Rules.{rule, firstBroken}
 use Rattle.book.specs.declared.trackers.Tracker.{Tracker}
-use Rattle.book.specs.Keys.{nodeOf, kindOf}
-use Rattle.book.specs.Entries.{rows}
+use Rattle.entries.specs.Keys.{nodeOf, kindOf}
+use Rattle.entries.specs.Entries.{rows}
 use Rattle.book.specs.Form.{inForm}
 use Rattle.book.specs.Calls.{BookAnswer, bookOf, unlessRefused}
 use Rattle.book.specs.Visits.{evidenceTotal}
@@ -54,6 +54,7 @@ abbrev pub tidyAnswer : Tracker → List ℕ → List ℕ → BookAnswer
 tidyAnswer t book queue = record {
   number = tidyNumber t book queue;
   state = some (tidyState t book queue);
+  taken = none;
   book = tidyBook t book queue;
   queue = queue;
 }

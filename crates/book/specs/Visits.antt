@@ -5,7 +5,7 @@ use mathlib.Core.List.{List, [], _∷_}
 use mathlib.Core.Bool.{cond}
 use lib.Dec.{eqb}
 use Rattle.priors.specs.Rows.{Row}
-use Rattle.book.specs.Keys.{nodeOf}
+use Rattle.entries.specs.Keys.{nodeOf}
 use Rattle.book.specs.Path.{Steps}
 use Rattle.book.specs.Recount.{windowPart}
 use Rattle.book.specs.Figures.{total}

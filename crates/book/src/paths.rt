@@ -1,25 +1,25 @@
 // A path's steps, added to a book in one pass and taken away again. A path is lent as bytes, 8 a step.
 ghost use mathlib.Core.Path.{_≡_};
 ghost use mathlib.Core.Bool.{true};
-ghost use Prim.Native.Nat.{_*_, _^_, _≤_};
+ghost use Prim.Native.Nat.{_-_, _*_, _^_, _≤_};
 ghost use lib.ListN.{length};
 ghost use Rattle.priors.specs.Rows.{keys, Ascends, touch, bump};
-ghost use Rattle.book.specs.Limits.{maxCount};
-ghost use Rattle.book.specs.Keys.{endKey, childKey};
-ghost use Rattle.book.specs.Entries.{rows, Rewritten};
+ghost use Rattle.entries.specs.Keys.{endKey, childKey};
+ghost use Rattle.entries.specs.Entries.{rows, Rewritten, CountsUpTo};
 ghost use Rattle.book.specs.Path.{pathOf, wholePath, listedKeys, countedKeys};
-ghost use Rattle.book.specs.Changes.{CountsUpTo, EndingsListed, touchAll, bumpAll, fadeAll};
-use crate::changes::fade_key;
-use crate::changes::note;
-use crate::changes::touch;
-use crate::entries;
-use crate::entries::Found;
-use crate::entries::find;
-use crate::entries::insert;
-use crate::keys::child;
-use crate::keys::ending;
-use crate::limits::MAX_STEPS;
-use crate::limits::STEP_SIZE;
+ghost use Rattle.book.specs.Changes.{EndingsListed, touchAll, bumpAll, fadeAll};
+use entries::changes::fade_key;
+use entries::changes::note;
+use entries::changes::touch;
+use entries::entries::Found;
+use entries::entries::bump;
+use entries::entries::find;
+use entries::entries::insert;
+use entries::hints::told;
+use entries::keys::child;
+use entries::keys::ending;
+use entries::limits::MAX_STEPS;
+use entries::limits::STEP_SIZE;
 use priors::addresses::rank_at;
 
 // A path has 1 to 64 whole steps.
@@ -42,14 +42,14 @@ fn add_pair(book: &mut [u8], used: usize, node: u64, next: u64) -> usize
     requires { ⌜ 24 * used ≤ length (now book) ⌝ }
     requires { ⌜ Ascends 0 (keys (rows (now book) used)) ⌝ }
     requires { ⌜ EndingsListed (rows (now book) used) ⌝ }
-    requires { ⌜ CountsUpTo (2 ^ 31) (rows (now book) used) ⌝ }
+    requires { ⌜ CountsUpTo (2 ^ 32 - 2) (rows (now book) used) ⌝ }
     requires { ⌜ 24 * length (bump (childKey node next) (touch (endKey node) (rows (now book) used))) ≤ length (now book) ⌝ }
     ensures { λ r. ⌜ Rewritten (now (book .entry)) (now (book .exit)) r (bump (childKey node next) (touch (endKey node) (rows (now (book .entry)) used))) ⌝ }
 {
     let key = child(node, next);
     match find(book, used, key) {
         Found::At(i) => {
-            entries::bump(book, i);
+            bump(book, i);
             used
         }
         Found::Missing(i) => {
@@ -66,7 +66,7 @@ pub fn add_steps(book: &mut [u8], used: usize, path: &[u8]) -> usize
     requires { ⌜ 24 * used ≤ length (now book) ⌝ }
     requires { ⌜ Ascends 0 (keys (rows (now book) used)) ⌝ }
     requires { ⌜ EndingsListed (rows (now book) used) ⌝ }
-    requires { ⌜ CountsUpTo maxCount (rows (now book) used) ⌝ }
+    requires { ⌜ CountsUpTo (2 ^ 31) (rows (now book) used) ⌝ }
     requires { ⌜ 24 * length (touchAll (listedKeys (pathOf (now path))) (rows (now book) used)) ≤ length (now book) ⌝ }
     ensures { λ r. ⌜ Rewritten (now (book .entry)) (now (book .exit)) r (bumpAll (countedKeys (pathOf (now (path .entry)))) (touchAll (listedKeys (pathOf (now (path .entry)))) (rows (now (book .entry)) used))) ⌝ }
 {
@@ -84,7 +84,7 @@ pub fn add_steps(book: &mut [u8], used: usize, path: &[u8]) -> usize
 }
 
 // Takes away what a path counted.
-pub fn take_away(book: &mut [u8], used: usize, path: &[u8])
+pub fn take_away(book: &mut [u8], used: usize, path: &[u8], hints: &mut [u16], row: usize)
     requires { ⌜ 8 ≤ length (now path) ⌝ }
     requires { ⌜ 24 * used ≤ length (now book) ⌝ }
     requires { ⌜ Ascends 0 (keys (rows (now book) used)) ⌝ }
@@ -95,9 +95,11 @@ pub fn take_away(book: &mut [u8], used: usize, path: &[u8])
     while i < last {
         let node = rank_at(path, STEP_SIZE * i);
         let next = rank_at(path, STEP_SIZE * (i + 1));
-        fade_key(book, used, child(node, next));
+        let place = told(hints, row, i);
+        fade_key(book, used, child(node, next), place, hints);
         i += 1;
     }
     let end = rank_at(path, STEP_SIZE * last);
-    fade_key(book, used, ending(end));
+    let place = told(hints, row, last);
+    fade_key(book, used, ending(end), place, hints);
 }

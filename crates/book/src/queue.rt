@@ -4,8 +4,8 @@ ghost use Prim.Native.Nat.{_+_, _*_, _≤_};
 ghost use lib.ListN.{length, take, drop};
 ghost use Rattle.priors.specs.Word.{word, store};
 ghost use Rattle.book.specs.Calls.{zeros, placeBytes};
-use crate::limits::PLACE_SIZE;
-use crate::limits::STEP_SIZE;
+use entries::limits::PLACE_SIZE;
+use entries::limits::STEP_SIZE;
 use priors::words::read_u32;
 use priors::words::write_u32;
 

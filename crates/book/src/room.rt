@@ -5,21 +5,19 @@ ghost use Prim.Native.Nat.{_+_, _*_, _/_, _≤_, _<_};
 ghost use lib.Dec.{leb, eqb};
 ghost use lib.ListN.{length, getD, take};
 ghost use Rattle.priors.specs.Rows.{keys, Ascends};
-ghost use Rattle.book.specs.Keys.{keyValue};
-ghost use Rattle.book.specs.Entries.{rows};
+ghost use Rattle.entries.specs.Keys.{keyValue};
+ghost use Rattle.entries.specs.Entries.{rows};
 ghost use Rattle.book.specs.Path.{pathOf, wholePath, listedKeys};
-ghost use Rattle.book.specs.Form.{capacity};
 ghost use Rattle.book.specs.Changes.{touchAll, EndingsListed};
 ghost use Rattle.book.specs.Recount.{occurrences};
 ghost use Rattle.book.specs.Room.{brings};
-use crate::entries::Found;
-use crate::entries::find;
-use crate::keys::Key;
-use crate::keys::child;
-use crate::keys::ending;
-use crate::keys::same_key;
-use crate::limits::ENTRY_SIZE;
-use crate::limits::STEP_SIZE;
+use entries::entries::Found;
+use entries::entries::find;
+use entries::keys::Key;
+use entries::keys::child;
+use entries::keys::ending;
+use entries::keys::same_key;
+use entries::limits::STEP_SIZE;
 use priors::addresses::rank_at;
 
 // The key numbered j of those that a path lists: a step's ending, then the child that follows it, and so on.
@@ -102,18 +100,18 @@ fn entries_with(book: &[u8], used: usize, path: &[u8]) -> usize
     all + entries_brought(book, used, path, 2 * last)
 }
 
-// The book has room for the path. A path of n steps lists at most 2n - 1 keys, so they are counted only where that might be too many.
-pub fn has_room(book: &[u8], used: usize, path: &[u8]) -> bool
+// With the path there are at most so many entries. A path of n steps lists at most 2n - 1 keys, so they are counted only where that might
+// be too many.
+pub fn has_room(book: &[u8], used: usize, path: &[u8], limit: usize) -> bool
     requires { ⌜ wholePath (now path) ≡ true ⌝ }
     requires { ⌜ 24 * used ≤ length (now book) ⌝ }
     requires { ⌜ Ascends 0 (keys (rows (now book) used)) ⌝ }
     requires { ⌜ EndingsListed (rows (now book) used) ⌝ }
-    ensures { λ r. ⌜ r ≡ leb (length (touchAll (listedKeys (pathOf (now (path .entry)))) (rows (now (book .entry)) used))) (capacity (now (book .entry))) ⌝ }
+    ensures { λ r. ⌜ r ≡ leb (length (touchAll (listedKeys (pathOf (now (path .entry)))) (rows (now (book .entry)) used))) limit ⌝ }
 {
-    let capacity = book.len() / ENTRY_SIZE;
     let most = used + 2 * (path.len() / STEP_SIZE) - 1;
-    if most <= capacity {
+    if most <= limit {
         return true;
     }
-    entries_with(book, used, path) <= capacity
+    entries_with(book, used, path) <= limit
 }

@@ -1,29 +1,36 @@
 // The state that stands beside the lent book and queue: it goes into a call by value and comes back in the answer.
 ghost use mathlib.Core.Path.{_≡_};
 ghost use mathlib.Core.Bool.{true};
-ghost use Prim.Native.Nat.{_*_, _≤_};
+ghost use Prim.Native.Nat.{_*_, _≤_, _<_};
 ghost use lib.ListN.{length};
 ghost use Rattle.priors.specs.Rows.{keys, Ascends};
-ghost use Rattle.book.specs.Entries.{rows, Rewritten};
+ghost use Rattle.entries.specs.Limits.{maxEntries, maxAccepted};
+ghost use Rattle.entries.specs.Entries.{rows, Rewritten};
 ghost use Rattle.book.specs.Changes.{fadeAll, leftKeys};
 ghost use Rattle.book.specs.Figures.{inWindow};
 ghost use Rattle.book.specs.Form.{inForm};
 ghost use Rattle.book.specs.Tidy.{tidyAnswer};
-ghost use Rattle.book.specs.Calls.{openedAnswer, changedAnswer, openAnswer, addAnswer, nextPlace, leaving, queueWith, stateAfter, bookAfter, Ready, Leaves};
+ghost use Rattle.book.specs.Calls.{openedAnswer, changedNumber, changedState, changedAnswer, openAnswer, addAnswer, nextPlace, leaving, queueWith};
+ghost use Rattle.book.specs.Batches.{batchedAnswer, batchAnswer};
+ghost use Rattle.book.specs.Adding.{Leaves, Going, Gone, nextState};
+use crate::counting::Counted;
+use crate::counting::count_path;
 use crate::form::book_fits;
 use crate::form::in_form;
 use crate::form::queue_fits;
-use crate::limits::MAX_ACCEPTED;
-use crate::limits::MAX_WINDOW;
-use crate::limits::PLACE_SIZE;
-use crate::paths::add_steps;
 use crate::paths::take_away;
 use crate::paths::whole_path;
+use crate::places::lent_path;
 use crate::queue::clear;
 use crate::queue::oldest;
 use crate::queue::put_path;
-use crate::room::has_room;
 use crate::tidying::drop_zeros;
+use entries::hints::note_all;
+use entries::hints::row_of;
+use entries::limits::ENTRY_SIZE;
+use entries::limits::MAX_ACCEPTED;
+use entries::limits::MAX_WINDOW;
+use entries::limits::PLACE_SIZE;
 use priors::refusals::Reason;
 use priors::refusals::Refusal;
 
@@ -43,6 +50,12 @@ pub enum Opened {
 pub enum Changed {
     Done(Tracker),
     Refused(Refusal, Tracker),
+}
+
+// What a list of paths answers: the state with those in it that were taken, and how many these were; and, where one was refused, why.
+pub enum Batch {
+    Taken(Tracker, u32),
+    Stopped(Refusal, Tracker, u32),
 }
 
 impl Tracker {
@@ -75,13 +88,20 @@ impl Tracker {
         if !in_form(self, book, queue) {
             return Changed::Refused(Refusal::Plain(Reason::Form), self);
         }
-        self.add_formed(book, queue, path)
+        let mut none = [0u16; 1];
+        self.add_going(book, queue, path, &mut none)
     }
 
-    // The same behind its form test. Not for users, who would have to show the form.
-    pub fn add_formed(mut self, book: &mut [u8], queue: &mut [u8], path: &[u8]) -> Changed
-        requires { ⌜ inForm self (now book) (now queue) ≡ true ⌝ }
-        ensures { λ r. ⌜ changedAnswer r (now (book .exit)) (now (queue .exit)) ≡ addAnswer self (now (book .entry)) (now (queue .entry)) (now (path .entry)) ⌝ }
+    // An add in a list of adds, whose form was tested before the first: 10, 11, 12.
+    fn add_going(
+        mut self,
+        book: &mut [u8],
+        queue: &mut [u8],
+        path: &[u8],
+        hints: &mut [u16],
+    ) -> Changed
+        requires { ⌜ Going self (now book) (now queue) ⌝ }
+        ensures { λ r. ⌜ Gone self (now (book .entry)) (now (queue .entry)) (now (path .entry)) (changedNumber r) (changedState r) (now (book .exit)) (now (queue .exit)) ⌝ }
     {
         if !whole_path(path) {
             return Changed::Refused(Refusal::Plain(Reason::PathLength), self);
@@ -89,26 +109,65 @@ impl Tracker {
         if MAX_ACCEPTED <= self.accepted {
             return Changed::Refused(Refusal::Plain(Reason::PathsFull), self);
         }
-        if !has_room(book, self.used as usize, path) {
-            return Changed::Refused(Refusal::Plain(Reason::BookFull), self);
+        let limit = book.len() / ENTRY_SIZE;
+        let row = row_of(self.window, self.accepted as usize);
+        match count_path(book, self.used as usize, path, limit, hints, row) {
+            Counted::Full => Changed::Refused(Refusal::Plain(Reason::BookFull), self),
+            Counted::Used(used) => Changed::Done(self.go_on(book, used, queue, path, hints)),
         }
-        Changed::Done(self.add_within(book, queue, path))
     }
 
-    // Adds a path that no test turns back.
-    fn add_within(mut self, book: &mut [u8], queue: &mut [u8], path: &[u8]) -> Tracker
-        requires { ⌜ Ready self (now book) (now queue) (now path) ⌝ }
-        ensures { λ r. ⌜ r ≡ stateAfter self (now (book .entry)) (now (queue .entry)) (now (path .entry)) ⌝ }
-        ensures { λ r. ⌜ now (book .exit) ≡ bookAfter self (now (book .entry)) (now (queue .entry)) (now (path .entry)) ⌝ }
+    // The path is counted: the oldest past the window is taken away, and the path is kept.
+    fn go_on(
+        mut self,
+        book: &mut [u8],
+        used: usize,
+        queue: &mut [u8],
+        path: &[u8],
+        hints: &mut [u16],
+    ) -> Tracker
+        requires { ⌜ 24 * used ≤ length (now book) ⌝ }
+        requires { ⌜ used ≤ maxEntries ⌝ }
+        requires { ⌜ Ascends 0 (keys (rows (now book) used)) ⌝ }
+        requires { ⌜ Leaves self (now queue) ⌝ }
+        requires { ⌜ length (now path) ≤ 512 ⌝ }
+        requires { ⌜ self .accepted < maxAccepted ⌝ }
+        ensures { λ r. ⌜ r ≡ nextState self used ⌝ }
+        ensures { λ r. ⌜ Rewritten (now (book .entry)) (now (book .exit)) used (fadeAll (leftKeys (leaving self (now (queue .entry)))) (rows (now (book .entry)) used)) ⌝ }
         ensures { λ r. ⌜ now (queue .exit) ≡ queueWith self (now (queue .entry)) (now (path .entry)) ⌝ }
     {
-        let used = add_steps(book, self.used as usize, path);
-        self.let_go(book, used, queue);
+        self.let_go(book, used, queue, hints);
         self.keep(queue, path);
         let accepted = self.accepted + 1;
         self.used = used as u32;
         self.accepted = accepted;
         self
+    }
+
+    // Adds the paths that lie in lent places, one after another, up to the first that is refused: 9 for the form, tested once, then 10 to
+    // 12 for each. Those taken before stay in.
+    pub fn add_paths(mut self, book: &mut [u8], queue: &mut [u8], places: &[u8]) -> Batch
+        ensures { λ r. ⌜ batchedAnswer r (now (book .exit)) (now (queue .exit)) ≡ batchAnswer self (now (book .entry)) (now (queue .entry)) (now (places .entry)) ⌝ }
+    {
+        if !in_form(self, book, queue) {
+            return Batch::Stopped(Refusal::Plain(Reason::Form), self, 0);
+        }
+        let mut hints = [0u16; 49168];
+        note_all(book, self.used as usize, &mut hints, places.len());
+        let mut t = self;
+        let mut taken = 0u32;
+        while PLACE_SIZE * (taken as usize) < places.len() {
+            match t.add_going(book, queue, lent_path(places, taken as usize), &mut hints) {
+                Changed::Refused(r, s) => {
+                    return Batch::Stopped(r, s, taken);
+                }
+                Changed::Done(s) => {
+                    t = s;
+                }
+            }
+            taken += 1;
+        }
+        Batch::Taken(t, taken)
     }
 
     // Where the next path is written, and where the oldest lies once the window is full.
@@ -120,7 +179,7 @@ impl Tracker {
     }
 
     // Takes the oldest path past the window away, if the window is full.
-    fn let_go(self, book: &mut [u8], used: usize, queue: &[u8])
+    fn let_go(self, book: &mut [u8], used: usize, queue: &[u8], hints: &mut [u16])
         requires { ⌜ 24 * used ≤ length (now book) ⌝ }
         requires { ⌜ Ascends 0 (keys (rows (now book) used)) ⌝ }
         requires { ⌜ Leaves self (now queue) ⌝ }
@@ -133,7 +192,8 @@ impl Tracker {
             return;
         }
         let at = self.next_place();
-        take_away(book, used, oldest(queue, at));
+        let row = row_of(self.window, self.accepted as usize + 1);
+        take_away(book, used, oldest(queue, at), hints, row);
     }
 
     // Writes the path into its place, if there is a window.

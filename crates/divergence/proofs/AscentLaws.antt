@@ -7,7 +7,7 @@ use mathlib.Core.List.{List, [], _∷_, _++_, map, flatMap}
 use Rattle.priors.specs.Rows.{Ascends}
 use Rattle.priors.specs.Address.{lift, rank}
 use Rattle.priors.proofs.RowLaws.{ascends-from}
-use Rattle.book.specs.Keys.{keyOf, endKey, childKey}
+use Rattle.entries.specs.Keys.{keyOf, endKey, childKey}
 use Rattle.book.proofs.Membership.{In, in-tail, in-head, in-cons, in-append, in-left, in-right, in-none}
 
 -- ---- members

@@ -15,9 +15,9 @@ use Rattle.priors.specs.Priors.{priorsRefusal}
 use Rattle.priors.proofs.BelowLaws.{second-true}
 use Rattle.priors.proofs.RuleLaws.{namesNone, tables-keep, some-number, priors-unnamed, unless-refused}
 use Rattle.book.specs.declared.trackers.Tracker.{Tracker}
-use Rattle.book.specs.Limits.{maxEntries}
+use Rattle.entries.specs.Limits.{maxEntries}
 use Rattle.book.specs.Form.{bookFits, capacity, formed, inForm}
-use Rattle.book.specs.Entries.{rows}
+use Rattle.entries.specs.Entries.{rows}
 use Rattle.book.proofs.CallLaws.{form-book, form-used, form-formed}
 use Rattle.divergence.specs.Readings.{Reading, refused, unless, formRefusal}
 use Rattle.divergence.specs.Checks.{orElse, checksRefusal}

@@ -1,4 +1,4 @@
--- The claim over lists of openings, adds, tidies and readings, proved: an opening, an add or a tidy goes as book says of it, and a reading of a recount's image sees the form,
+-- The claim over lists of changes and readings, proved: an opening, an add, a list of paths or a tidy goes as book says of it, and a reading of a recount's image sees the form,
 -- the nodes and the sequence length that the recount has. Assumes nothing.
 use mathlib.Core.Path.{_≡_, refl, sym, ap, _∙_}
 use Prim.Native.Nat.{ℕ}
@@ -8,7 +8,8 @@ use lib.ListN.{length}
 use Rattle.book.specs.Recount.{sequenceLength}
 use Rattle.book.specs.Figures.{All}
 use Rattle.book.specs.Claims as Book
-use Rattle.book.specs.Claims.{BookCall, opening, bookStep, Machine, Recount, since, openRefusal, recountStep, image}
+use Rattle.book.specs.Calls.{Machine}
+use Rattle.book.specs.Claims.{BookCall, opening, bookStep, Recount, since, openRefusal, recountStep, image}
 use Rattle.book.proofs.Window.{sequence-length}
 use Rattle.book.proofs.Kept.{Kept, since-ends, since-ranks}
 use Rattle.book.proofs.FormImage.{rows-are, in-form}
@@ -44,7 +45,7 @@ module _ (r : Recount) (k : Kept r) where
 
 -- ---- one call, and any calls
 
--- an opening, an add or a tidy: as book says of it
+-- a change: as book says of it
 change-alike : (m : Machine) (r : Recount) (c : BookCall) → Alike bookStep recountStep image Kept Book.InBytes m r c → Alike step recounted image Kept InBytes m r (change c)
 unfolding step recounted
 change-alike m r c a = (ap changed (a .0), a .1, a .2)

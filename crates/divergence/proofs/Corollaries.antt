@@ -1,19 +1,20 @@
 -- The corollaries, proved: the claim says of which recount the machine is the image and which answers it gave, and without its readings a list of calls runs as its
--- openings, adds and tidies do, of which W, H and the paths that list are read off. Assumes nothing.
+-- changes do, of which W, H and the paths that list are read off. Assumes nothing.
 use mathlib.Core.Path.{_≡_, refl, sym, ap, _∙_}
 use Prim.Native.Nat.{ℕ, _≤_, zero-le}
 use native.Mathlib.Omega.{arith}
 use mathlib.Core.List.{List, [], _∷_, _++_}
 use lib.ListN.{length}
 use Rattle.book.specs.Path.{Steps}
-use Rattle.book.specs.Calls.{BookAnswer}
+use Rattle.book.specs.Calls.{Machine, BookAnswer}
 use Rattle.book.specs.Figures.{Whole, AllWhole, Ranks, AllRanks}
 use Rattle.book.specs.Memory.{least, adds, numbers}
-use Rattle.book.specs.Claims.{BookCall, opening, add, tidy, Machine, bookStep, Recount, since, restarted, tidied, recountStep, image, runs}
+use Rattle.book.specs.Claims.{BookCall, opening, add, addPaths, tidy, bookStep, Recount, since, restarted, tidied, recountStep, image, runs}
 use Rattle.book.specs.Corollaries.{Heard, nothingHeard, heardOf}
 use Rattle.book.proofs.Kept.{Kept, since-ends, since-ranks}
 use Rattle.book.proofs.RefusalLaws.{open-number}
-use Rattle.book.proofs.Corollaries.{heardIn, heard-runs, add-not-nine, told as book-told}
+use Rattle.book.specs.Batches.{placesIn}
+use Rattle.book.proofs.Corollaries.{heardIn, heard-runs, add-not-nine, batch-not-nine, told as book-told}
 use Rattle.book.proofs.LeastLaws.{listing-least, needs-some, order-length, order-all, order-least}
 use Rattle.book.proofs.MemoryLaws.{serves, lacks}
 use Rattle.divergence.specs.Asked.{Seen}
@@ -58,6 +59,7 @@ unfolding runs recounted recountStep
 never-nine r [] = tt
 never-nine r (change (opening w book queue) ∷ cs) = never-nine (recountStep r (opening w book queue) .1) cs
 never-nine r (change (add path) ∷ cs) = (add-not-nine r path, never-nine (recountStep r (add path) .1) cs)
+never-nine r (change (addPaths places) ∷ cs) = (batch-not-nine r places (placesIn places), never-nine (recountStep r (addPaths places) .1) cs)
 never-nine r (change tidy ∷ cs) = (refl, never-nine (tidied r) cs)
 never-nine r (read c ∷ cs) = (reading-not-nine (r .window) (r .paths) (since r) c, never-nine r cs)
 

@@ -19,14 +19,13 @@ use Rattle.priors.proofs.Ranks.{Bytes}
 use Rattle.priors.proofs.RuleLaws.{namesNone}
 use Rattle.priors.proofs.PriorLaws.{accepted, Positive, prior-positive, found-small, found-fits, total-le}
 use Rattle.book.specs.declared.trackers.Tracker.{Tracker}
-use Rattle.book.specs.Limits.{maxCount}
-use Rattle.book.specs.Keys.{nodeOf, kindOf}
-use Rattle.book.specs.Entries.{rows}
+use Rattle.entries.specs.Limits.{maxCount}
+use Rattle.entries.specs.Keys.{nodeOf, kindOf}
+use Rattle.entries.specs.Entries.{rows, CountsUpTo}
 use Rattle.book.specs.Form.{inForm}
 use Rattle.book.specs.Figures.{All}
-use Rattle.book.specs.Changes.{CountsUpTo}
 use Rattle.book.proofs.PathLaws.{all-bytes}
-use Rattle.book.proofs.EntryLaws.{length-rows}
+use Rattle.entries.proofs.EntryLaws.{length-rows}
 use Rattle.book.proofs.FormLaws.{formed-counts}
 use Rattle.book.proofs.CallLaws.{form-formed}
 use Rattle.divergence.specs.declared.divergences.NodeDivergence.{NodeDivergence}

@@ -17,13 +17,13 @@ use Rattle.priors.proofs.Orders.{Alike, alike, unlike, compared}
 use Rattle.priors.proofs.ByPlace.{Spot, end, before, here, later, spot, spot-lt}
 use Rattle.priors.proofs.Tests.{both}
 use Rattle.priors.proofs.RowLaws.{ascends-from}
-use Rattle.book.specs.declared.entries.Found.the-variants.{At, Missing}
-use Rattle.book.specs.Keys.{noChild, endKey, nodeOf, kindOf, childOf}
-use Rattle.book.specs.Entries.{rowAt, rows, findIn}
+use Rattle.entries.specs.declared.entries.Found.the-variants.{At, Missing}
+use Rattle.entries.specs.Keys.{noChild, endKey, nodeOf, kindOf, childOf}
+use Rattle.entries.specs.Entries.{rowAt, rows, findIn}
 use Rattle.book.specs.Figures.{All}
 use Rattle.book.specs.Form.{plain, follows, formedAfter, formed}
 use Rattle.book.proofs.ListingForm.{node-end, kind-end}
-use Rattle.book.proofs.EntryLaws.{length-rows, getD-rows}
+use Rattle.entries.proofs.EntryLaws.{length-rows, getD-rows}
 use Rattle.book.proofs.FormLaws.{formed-ascends, ending-key}
 use Rattle.divergence.specs.Nodes.{childRow, spread, listedNodes, evidenceOf}
 use Rattle.divergence.specs.Parts.{part, leading, evidenceAt}

@@ -12,8 +12,8 @@ use Rattle.priors.specs.Priors.{recordAt, recordCount, chainOf, childrenOf}
 use Rattle.priors.proofs.ChainLaws.{next-small, rows-end, rows-step}
 use Rattle.priors.proofs.Orders.{compare-lt, compare-gt, compare-self}
 use Rattle.priors.proofs.RowLaws.{ascends-from, gained, length-change}
-use Rattle.book.specs.Entries.{rowAt}
-use Rattle.book.proofs.EntryLaws.{length-rows}
+use Rattle.entries.specs.Entries.{rowAt}
+use Rattle.entries.proofs.EntryLaws.{length-rows}
 use Rattle.divergence.specs.declared.probabilities.Child.{Child}
 use Rattle.divergence.specs.Nodes.{childRow}
 use Rattle.divergence.specs.Parts.{part}

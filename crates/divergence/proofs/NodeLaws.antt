@@ -16,11 +16,11 @@ use Rattle.priors.specs.Search.{blank, place, holds}
 use Rattle.priors.specs.Priors.{countSum, total}
 use Rattle.priors.proofs.BelowLaws.{second-true}
 use Rattle.priors.proofs.Ranks.{Bytes, word-lt, rankAt-lt}
-use Rattle.book.specs.declared.entries.Found.the-variants.{At, Missing}
-use Rattle.book.specs.Keys.{endKey, nodeOf, kindOf, childOf}
-use Rattle.book.specs.Entries.{keyAt, rowAt, rows, findIn}
-use Rattle.book.proofs.KeyLaws.{key-node, key-kind, key-child}
-use Rattle.book.proofs.EntryLaws.{row-drop, getD-rows}
+use Rattle.entries.specs.declared.entries.Found.the-variants.{At, Missing}
+use Rattle.entries.specs.Keys.{endKey, nodeOf, kindOf, childOf}
+use Rattle.entries.specs.Entries.{keyAt, rowAt, rows, findIn}
+use Rattle.entries.proofs.KeyLaws.{key-node, key-kind, key-child}
+use Rattle.entries.proofs.EntryLaws.{row-drop, getD-rows}
 use Rattle.book.proofs.ListingForm.{node-end}
 use Rattle.divergence.specs.Nodes.{childRow}
 use Rattle.divergence.specs.Parts.{part, leading, nodeAt, evidenceAt}

@@ -8,11 +8,11 @@ use mathlib.Core.List.{List, [], _∷_, _++_, map, flatMap, append-nil}
 use mathlib.Core.Bool.{Bool, true, false, cond, _&&_}
 use lib.Dec.{eqb}
 use Rattle.priors.specs.Rows.{Row, row}
-use Rattle.book.specs.Keys.{endKey, childKey, nodeOf, childOf}
+use Rattle.entries.specs.Keys.{endKey, childKey, nodeOf, childOf}
 use Rattle.book.specs.Path.{Steps, listedKeys, countedKeys}
 use Rattle.book.specs.Recount.{occurrences, windowPart, listing, counted, rowsOf}
 use Rattle.book.specs.Figures.{total, transitions, endings, Ranks, AllRanks}
-use Rattle.book.proofs.KeyLaws.{key-child, key-parts, child-lt}
+use Rattle.entries.proofs.KeyLaws.{key-child, key-parts, child-lt}
 use Rattle.book.proofs.ManyRows.{ascends-entered}
 use Rattle.book.proofs.Occurrences.{occ-nil, occ-cons, occ-append}
 use Rattle.book.proofs.Window.{EndsWith}

@@ -15,7 +15,7 @@ use Rattle.priors.specs.Rows.{keys, Ascends}
 use Rattle.priors.specs.Priors.{Counts, recordCount, records, chain, chainOf, everyChild, nextLinkFits, priorOfNode, findRecord, priorOf, total, priorsRefusal}
 use Rattle.priors.proofs.RuleLaws.{priors-unnamed, unless-refused}
 use Rattle.book.specs.declared.trackers.Tracker.{Tracker}
-use Rattle.book.specs.Entries.{rows, countAt}
+use Rattle.entries.specs.Entries.{rows, countAt}
 use Rattle.book.specs.Form.{inForm}
 use Rattle.book.proofs.CallLaws.{form-used, form-formed}
 use Rattle.divergence.specs.Nodes.{Node, childRow, evidenceOf}

@@ -15,9 +15,9 @@ use Rattle.priors.specs.Rows.{Row}
 use Rattle.priors.specs.Refusals.{numberOf, namedNode}
 use Rattle.priors.specs.Priors.{priorOf}
 use Rattle.priors.proofs.Ranks.{Bytes}
-use Rattle.book.specs.Keys.{nodeOf, kindOf}
-use Rattle.book.specs.Entries.{rowAt, rows}
-use Rattle.book.proofs.EntryLaws.{length-rows}
+use Rattle.entries.specs.Keys.{nodeOf, kindOf}
+use Rattle.entries.specs.Entries.{rowAt, rows}
+use Rattle.entries.proofs.EntryLaws.{length-rows}
 use Rattle.divergence.specs.declared.divergences.NodeDivergence.{NodeDivergence}
 use Rattle.divergence.specs.declared.divergences.NodeDivergence.the-variants.{Value, NoPrior, MissingChild, PastTable}
 use Rattle.divergence.specs.declared.statistics.Tally.{Tally}

@@ -1,6 +1,6 @@
--- Demand 3 for one tracker: the claim over every list of openings, adds, tidies and readings. The machine keeps state, book and queue and answers by the definitions
--- that the functions' contracts cite. The recount keeps W, H and the base and applies the same formulas to its own lists. From an accepted opening on every answer,
--- every refusal and every byte is the recount's. Assumes nothing.
+-- Demand 3 for one tracker: the claim over every list of openings, adds, lists of paths, tidies and readings. The machine keeps state, book and queue and answers by the
+-- definitions that the functions' contracts cite. The recount keeps W, H and the base and applies the same formulas to its own lists. From an accepted opening on every
+-- answer, every refusal and every byte is the recount's. Assumes nothing.
 use Prim.Native.Nat.{ℕ}
 use mathlib.Core.Path.{_≡_}
 use mathlib.Core.List.{List, [], _∷_, _++_}
@@ -11,11 +11,11 @@ use Rattle.priors.specs.Address.{rankOf}
 use Rattle.priors.specs.Tables.{LentTables}
 use Rattle.priors.specs.Priors.{LentPriors}
 use Rattle.book.specs.Path.{Steps}
-use Rattle.book.specs.Calls.{BookAnswer}
+use Rattle.book.specs.Calls.{Machine, BookAnswer}
 use Rattle.book.specs.Recount as Paths
 use Rattle.book.specs.Figures.{All}
 use Rattle.book.specs.Claims as Book
-use Rattle.book.specs.Claims.{BookCall, opening, Machine, bookStep, Recount, since, openRefusal, recountStep, image, runs}
+use Rattle.book.specs.Claims.{BookCall, opening, bookStep, Recount, since, openRefusal, recountStep, image, runs}
 use Rattle.divergence.specs.RecountNodes.{recountNodes}
 use Rattle.divergence.specs.Readings.{Reading, Statistics, mapped}
 use Rattle.divergence.specs.Answers.{VectorResult, AllResult}
@@ -41,7 +41,7 @@ pub data Result : Type 0 where
   allKl : AllResult → Result
   stats : Statistics → Result
 
--- an opening, an add or a tidy answers with what it leaves; a reading tells its result, with what lies in its lent outputs afterwards
+-- a change, which is an opening, an add, a list of paths or a tidy, answers with what it leaves; a reading tells its result, with what lies in its lent outputs afterwards
 pub data Answer : Type 0 where
   changed : BookAnswer → Answer
   told : Reading Result → List Output → Answer
@@ -59,7 +59,7 @@ reading s (klDivStats tables priors) = told (mapped stats (statsAsked s tables p
 
 -- ---- the machine and the recount
 
--- a call, by what openings, adds and tidies do and what a reading sees; a reading changes nothing
+-- a call, by what changes do and what a reading sees; a reading changes nothing
 abbrev pub called : {State : Type 0} → (State → BookCall → BookAnswer × State) → (State → Seen) → State → Call → Answer × State
 called book seen s (change c) = let after = book s c in (changed (after .0), after .1)
 called book seen s (read c) = (reading (seen s) c, s)

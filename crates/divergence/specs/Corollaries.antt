@@ -1,4 +1,4 @@
--- What the claim comes to without the recount: W, H and L (`Heard` of book) are read off the openings, adds and tidies and their answers; the book tells what stands in
+-- What the claim comes to without the recount: W, H and L (`Heard` of book) are read off the changes and their answers; the book tells what stands in
 -- L and how often in the window part of H, a reading answers by these and what it is lent, and the evidence total of a node is its visits; readings leave no trace; 9
 -- never comes from the list's own tracker, and a tidy is never refused; and what the paths need is the least number of entries that serves. And from the definitions
 -- alone: no reading reads index 0 of a table. Assumes nothing.
@@ -10,13 +10,13 @@ use lib.ListN.{length}
 use lib.Ieee.{Float}
 use Rattle.priors.specs.Tables.{lentTables}
 use Rattle.priors.specs.Priors.{LentPriors, total}
-use Rattle.book.specs.Keys.{endKey}
+use Rattle.entries.specs.Keys.{endKey}
 use Rattle.book.specs.Path.{Steps}
-use Rattle.book.specs.Calls.{BookAnswer, openNumber}
+use Rattle.book.specs.Calls.{Machine, BookAnswer, openNumber}
 use Rattle.book.specs.Figures.{All, AllWhole, AllRanks}
 use Rattle.book.specs.Visits.{visits}
 use Rattle.book.specs.Memory.{least, adds, numbers, AllTaken, SomeTwelve}
-use Rattle.book.specs.Claims.{BookCall, opening, add, tidy, Machine, bookStep, runs}
+use Rattle.book.specs.Claims.{BookCall, opening, add, addPaths, tidy, bookStep, runs}
 use Rattle.book.specs.Corollaries.{nothingHeard, heardOf, entriesOf, HasRow, Told}
 use Rattle.divergence.specs.Nodes.{evidenceOf}
 use Rattle.divergence.specs.Readings.{Reading, refused, nothing, answered, nodesOf}
@@ -25,7 +25,7 @@ use Rattle.divergence.specs.Claims.{ReadingCall, Call, change, read, Ans
 
 -- ---- readings leave no trace
 
--- the openings, adds and tidies among the calls, and the answers to them
+-- the changes among the calls, and the answers to them
 unfoldable pub changesOf : List Call → List BookCall
 changesOf [] = []
 changesOf (change call ∷ calls) = call ∷ changesOf calls
@@ -58,18 +58,19 @@ answerNumber (told result outputs) = readingNumber result
 abbrev pub otherForm : ReadingCall → ℕ
 otherForm call = 0
 
--- 9 never comes from the list's own tracker: no add is answered 9, no tidy is refused, and no reading is answered 9 but by another tracker that it is lent
+-- 9 never comes from the list's own tracker: no add and no list of paths is answered 9, no tidy is refused, and no reading is answered 9 but by another tracker that it is lent
 abbrev pub NeverNine : List Call → List Answer → Type 0
 NeverNine [] answers = Unit {0}
 NeverNine (call ∷ calls) [] = Unit {0}
 NeverNine (change (opening window book queue) ∷ calls) (answer ∷ answers) = NeverNine calls answers
 NeverNine (change (add path) ∷ calls) (answer ∷ answers) = (answerNumber answer ≡ 9 → ⊥) × NeverNine calls answers
+NeverNine (change (addPaths places) ∷ calls) (answer ∷ answers) = (answerNumber answer ≡ 9 → ⊥) × NeverNine calls answers
 NeverNine (change tidy ∷ calls) (answer ∷ answers) = (answerNumber answer ≡ 0) × NeverNine calls answers
 NeverNine (read call ∷ calls) (answer ∷ answers) = (answerNumber answer ≡ 9 → otherForm call ≡ 9) × NeverNine calls answers
 
 -- ---- memory quoted to the entry
 
--- the changes among the calls are an opening in a book of n entries and then an add of each path of P, and no tidy; readings may stand anywhere. The window is any up to
+-- the changes among the calls are an opening in a book of n entries and then an add of each path of P, and no other; readings may stand anywhere. The window is any up to
 -- 1,024 that the queue serves, and what book and queue hold is any. The limits are written out, as in the claim
 pub record Adds (n : ℕ) (P : List Steps) (calls : List Call) : Type 0 where
   pub window : ℕ
@@ -108,7 +109,7 @@ TotalsAreVisits m W H =
 
 -- whatever there was before: after any openings, one that is accepted and any calls, the book tells what the paths that list hold, in totals that are visits, and a
 -- reading answers by these, by the paths accepted since the last accepted opening and by that opening's window; what the paths that list need is at most 16,384; and what
--- the accepted ones need is the least number of entries that serves them without a tidy
+-- the accepted ones need is the least number of entries that serves adds of them without a tidy
 abbrev pub Corollary : Type 0
 Corollary =
     (m : Machine) (first : List Call) → All IsOpening first

@@ -6,8 +6,8 @@ use mathlib.Core.List.{List, map}
 use mathlib.Core.Option.{none, some}
 use lib.ListN.{length}
 use Rattle.priors.specs.Rows.{keys, Ascends}
-use Rattle.book.specs.Limits.{entrySize, maxEntries}
-use Rattle.book.specs.Entries.{rows}
+use Rattle.entries.specs.Limits.{entrySize, maxEntries}
+use Rattle.entries.specs.Entries.{rows}
 use Rattle.book.specs.Form.{formed}
 use Rattle.divergence.specs.declared.evidence.Listed.{Listed}
 use Rattle.divergence.specs.declared.evidence.Listed.the-variants.{Entries, Unlisted}

@@ -6,7 +6,7 @@ use mathlib.Core.List.{List, _∷_, map}
 use lib.ListN.{length}
 use Rattle.priors.specs.Rows.{Row, row, keys, Ascends}
 use Rattle.priors.specs.Priors.{Counts, recordCount, childrenOf, countSum, everyChild, nextLinkFits}
-use Rattle.book.specs.Limits.{entrySize}
+use Rattle.entries.specs.Limits.{entrySize}
 use Rattle.priors.specs.declared.records.Record.{Record}
 use Rattle.divergence.specs.declared.probabilities.Child.{Child}
 use Rattle.divergence.specs.declared.probabilities.Merged.{Merged}

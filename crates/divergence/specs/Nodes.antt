@@ -6,7 +6,7 @@ use mathlib.Core.Option.{Option, none, some}
 use lib.Dec.{eqb}
 use Rattle.priors.specs.Rows.{Row, row}
 use Rattle.priors.specs.Priors.{Counts}
-use Rattle.book.specs.Keys.{nodeOf, kindOf, childOf}
+use Rattle.entries.specs.Keys.{nodeOf, kindOf, childOf}
 
 -- a listed node: its address, by rank, and its evidence
 pub record Node : Type 0 where

@@ -7,9 +7,9 @@ use lib.ListN.{drop}
 use Rattle.priors.specs.Address.{rankAt}
 use Rattle.priors.specs.Rows.{Row}
 use Rattle.priors.specs.Priors.{Counts}
-use Rattle.book.specs.Limits.{entrySize}
-use Rattle.book.specs.Keys.{kindOf}
-use Rattle.book.specs.Entries.{rows, countAt}
+use Rattle.entries.specs.Limits.{entrySize}
+use Rattle.entries.specs.Keys.{kindOf}
+use Rattle.entries.specs.Entries.{rows, countAt}
 use Rattle.divergence.specs.Nodes.{Node, childRow, listedNodes}
 
 -- the entries from the place `from` up to the place `to`

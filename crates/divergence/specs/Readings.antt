@@ -13,7 +13,7 @@ use Rattle.priors.specs.Rows.{keys}
 use Rattle.priors.specs.Tables.{tablesRefusal}
 use Rattle.priors.specs.Priors.{Counts, total, priorOf, priorsRefusal}
 use Rattle.book.specs.declared.trackers.Tracker.{Tracker}
-use Rattle.book.specs.Entries.{rows}
+use Rattle.entries.specs.Entries.{rows}
 use Rattle.book.specs.Form.{inForm}
 use Rattle.book.specs.Figures.{inWindow}
 use Rattle.divergence.specs.declared.divergences.NodeDivergence.{NodeDivergence}

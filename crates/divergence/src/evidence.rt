@@ -3,13 +3,13 @@ ghost use mathlib.Core.Path.{_≡_};
 ghost use mathlib.Core.Bool.{true};
 ghost use Prim.Native.Nat.{_*_, _≤_};
 ghost use lib.ListN.{length};
-ghost use Rattle.book.specs.Entries.{rows};
+ghost use Rattle.entries.specs.Entries.{rows};
 ghost use Rattle.book.specs.Form.{formed};
 ghost use Rattle.divergence.specs.Listing.{IsListed};
 use crate::nodes::children_end;
-use book::entries::Found;
-use book::entries::find;
-use book::keys::ending;
+use entries::entries::Found;
+use entries::entries::find;
+use entries::keys::ending;
 
 // The place of a node's ending and the place where its children end.
 pub enum Listed {

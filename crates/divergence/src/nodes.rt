@@ -3,9 +3,9 @@ ghost use mathlib.Core.Path.{_≡_};
 ghost use Prim.Native.Nat.{_+_, _*_, _≤_};
 ghost use lib.ListN.{length};
 ghost use Rattle.priors.specs.Priors.{countSum};
-ghost use Rattle.book.specs.Limits.{maxEntries};
+ghost use Rattle.entries.specs.Limits.{maxEntries};
 ghost use Rattle.divergence.specs.Parts.{part, leading};
-use book::limits::ENTRY_SIZE;
+use entries::limits::ENTRY_SIZE;
 use priors::words::read_u32;
 
 // The first place from i on whose entry is an ending, or `used`.

@@ -1,5 +1,6 @@
 -- A call's code by what the call answers, and what a lent number holds afterwards: an answer writes it; none and a refusal leave it, but a node that a refusal names
--- is written. The number that a child's look-up reads is an answer also where the child's count is none. Assumes nothing.
+-- is written. The number that a child's look-up reads is an answer also where the child's count is none. How many paths a list of paths took is told in every case
+-- (`takenOr` of `Outputs`). Assumes nothing.
 use Prim.Native.Nat.{ℕ}
 use mathlib.Core.Option.{Option, none, some}
 use lib.IntN.{ℤ}

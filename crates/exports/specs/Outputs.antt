@@ -43,6 +43,11 @@ changedNumbers (NotDone r t) before = before
 abbrev pub keptNumbers : BookAnswer → List ℕ → List ℕ
 keptNumbers a before = unlessRefused (a .number) (numbersOr (a .state) before) before
 
+-- how many paths were taken, where that is told
+abbrev pub takenOr : Option ℕ → ℕ → ℕ
+takenOr none before = before
+takenOr (some n) before = n
+
 -- ---- a child's look-up
 
 -- the number of child records read

@@ -5,13 +5,15 @@ ghost use Rattle.priors.specs.Refusals.{checkedNumber, namedNode};
 ghost use Rattle.priors.specs.Children.{countTold};
 ghost use Rattle.priors.specs.Lookups.{childAnswer};
 ghost use Rattle.book.specs.Calls.{openedNumber, changedNumber};
+ghost use Rattle.book.specs.Batches.{batchedNumber, batchedState, batchedTaken};
 ghost use Rattle.divergence.specs.Answers.{vectorAnswer, klAnswer, allAnswer, statsAnswer};
 ghost use Rattle.baseline.specs.Training.{trainAnswer};
 ghost use Rattle.baseline.specs.Stats.{baselineAnswer};
 ghost use Rattle.exports.specs.Codes.{code, written, scaleOr, pointOr, scaleNamed, pointNamed};
-ghost use Rattle.exports.specs.Outputs.{trackerOf, openedNumbers, changedNumbers, readOf, placesOf, endingOf, itself, allCounts, fourFigures, threeCounts, tenFigures};
+ghost use Rattle.exports.specs.Outputs.{trackerOf, numbersOf, openedNumbers, changedNumbers, readOf, placesOf, endingOf, itself, allCounts, fourFigures, threeCounts, tenFigures};
 use baseline::baselines::BaselineStats;
 use baseline::training::Trained;
+use book::trackers::Batch;
 use book::trackers::Changed;
 use book::trackers::Opened;
 use book::trackers::Tracker;
@@ -107,6 +109,26 @@ pub fn tell_changed(answer: Changed, state: &mut [u32; 3]) -> u32
             0
         }
         Changed::Refused(r, _) => number(r),
+    }
+}
+
+// The state and how many were taken are told in every case.
+pub fn tell_batch(answer: Batch, state: &mut [u32; 3], taken: &mut u32) -> u32
+    ensures { λ r. ⌜ r ≡ batchedNumber answer ⌝ }
+    ensures { λ _. ⌜ now (state .exit) ≡ numbersOf (batchedState answer) ⌝ }
+    ensures { λ _. ⌜ now (taken .exit) ≡ batchedTaken answer ⌝ }
+{
+    match answer {
+        Batch::Taken(t, n) => {
+            *state = [t.window, t.used, t.accepted];
+            *taken = n;
+            0
+        }
+        Batch::Stopped(r, t, n) => {
+            *state = [t.window, t.used, t.accepted];
+            *taken = n;
+            number(r)
+        }
     }
 }
 

@@ -1,8 +1,9 @@
 // Replays calls.bin and large.bin: lists of openings and adds on one tracker, each call's number, state and sums, and at the end
-// every byte of book and queue. A tidy, which tidies.bin has, is told as an add is.
+// every byte of book and queue. A tidy, which tidies.bin has, is told as an add is, and so is a list of paths, which batches.bin has.
 use crate::memory::after_places;
 use crate::memory::all_zero;
 use crate::memory::fill;
+use crate::memory::put_places;
 use crate::memory::same_places;
 use crate::memory::sum_of;
 use crate::tallies::Tally;
@@ -12,6 +13,7 @@ use crate::tape::bytes_at;
 use crate::tape::forward;
 use crate::tape::part;
 use crate::tape::word;
+use book::trackers::Batch;
 use book::trackers::Changed;
 use book::trackers::Opened;
 use book::trackers::Tracker;
@@ -150,6 +152,61 @@ pub fn add_call(p: Play, tape: &[u8], book: &mut [u8], queue: &mut [u8]) -> Play
     let tracker = p.tracker;
     let a = tracker.add_path(&mut book[..book_len], &mut queue[..queue_len], path);
     changed(p, a, tape, answer, book, queue)
+}
+
+// The play, where as many paths were taken as is recorded.
+fn taken(p: Play, agrees: bool) -> Play {
+    if agrees {
+        return p;
+    }
+    broken(p)
+}
+
+// The play after a list of paths, whose answer is to stand at a place: how many were taken, and then as of an add.
+fn batched(p: Play, a: Batch, tape: &[u8], at: usize, book: &[u8], queue: &[u8]) -> Play {
+    let told = word(tape, at);
+    let rest = forward(at, 1);
+    match a {
+        Batch::Stopped(r, after, n) => taken(
+            compared(with_state(p, after), tape, rest, number(r), book, queue),
+            n == told,
+        ),
+        Batch::Taken(after, n) => taken(
+            compared(with_state(p, after), tape, rest, 0, book, queue),
+            n == told,
+        ),
+    }
+}
+
+// A list of paths in lent places.
+fn add_lent(
+    p: Play,
+    lent: &[u8],
+    tape: &[u8],
+    at: usize,
+    book: &mut [u8],
+    queue: &mut [u8],
+) -> Play {
+    let book_len = p.book_len;
+    let queue_len = p.queue_len;
+    if book.len() < book_len {
+        return broken(p);
+    }
+    if queue.len() < queue_len {
+        return broken(p);
+    }
+    let tracker = p.tracker;
+    let a = tracker.add_paths(&mut book[..book_len], &mut queue[..queue_len], lent);
+    batched(p, a, tape, at, book, queue)
+}
+
+// The same, where the places stand at the place of the play.
+pub fn batch_call(p: Play, tape: &[u8], book: &mut [u8], queue: &mut [u8]) -> Play {
+    let mut places = [0u8; 5160];
+    put_places(tape, p.at, &mut places);
+    let n = word(tape, p.at) as usize;
+    let answer = after_places(tape, p.at);
+    add_lent(p, part(&places, 0, n), tape, answer, book, queue)
 }
 
 // A tidy, which has no arguments.

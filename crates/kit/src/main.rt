@@ -13,7 +13,7 @@ mod altered_cases; // altered.bin
 mod outputs; // a lent output
 mod vector_calls; // readings of probabilities
 mod kl_calls; // readings of divergences
-mod readings_cases; // readings.bin and tidies.bin
+mod readings_cases; // readings.bin, tidies.bin and batches.bin
 mod stats_cases; // training.bin: figures asked of baselines
 mod train_cases; // training.bin: trainings
 mod training_cases; // training.bin
@@ -100,6 +100,19 @@ fn tidies() {
     ).print(b"tidies");
 }
 
+fn batches() {
+    let mut tape = [0u8; 65536];
+    let n = read_file(b"batches.bin", &mut tape);
+    let mut book = [0u8; 1536];
+    let mut queue = [0u8; 4644];
+    readings_cases::replay(
+        part(&tape, 0, n),
+        readings_cases::BATCHES,
+        &mut book,
+        &mut queue,
+    ).print(b"batches");
+}
+
 fn training() {
     let mut tape = [0u8; 81920];
     let n = read_file(b"training.bin", &mut tape);
@@ -114,6 +127,7 @@ fn main() {
     altered();
     readings();
     tidies();
+    batches();
     training();
     openings();
 }

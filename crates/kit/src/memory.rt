@@ -1,7 +1,7 @@
 // Lent bytes: their sum, and filling and comparing them with what is recorded, as bytes or as places of 516 bytes.
 use crate::tape::forward;
 use crate::tape::word;
-use book::limits::PLACE_SIZE;
+use entries::limits::PLACE_SIZE;
 
 // The sum with one more byte.
 fn summed(sum: u32, byte: u8) -> u32 {

@@ -1,7 +1,8 @@
-// Replays readings.bin and tidies.bin: lists of openings, adds, tidies and readings on one tracker, every answer, every output place
-// afterwards, and at the end every byte of book and queue.
+// Replays readings.bin, tidies.bin and batches.bin: lists of openings, adds, lists of paths, tidies and readings on one tracker, every
+// answer, every output place afterwards, and at the end every byte of book and queue.
 use crate::calls_cases::Play;
 use crate::calls_cases::add_call;
+use crate::calls_cases::batch_call;
 use crate::calls_cases::broken;
 use crate::calls_cases::fill_both;
 use crate::calls_cases::moved;
@@ -22,10 +23,12 @@ use crate::tape::word;
 use crate::vector_calls::evidence_call;
 use crate::vector_calls::vector_call;
 
-// The letters TPR1 and TPY1.
+// The letters TPR1, TPY1 and TPB1.
 pub const READINGS: u32 = 827478100;
 
 pub const TIDIES: u32 = 827936852;
+
+pub const BATCHES: u32 = 826429524;
 
 // The play, and the places of the tables and of the priors that readings are lent.
 struct Lending {
@@ -85,6 +88,9 @@ fn call(l: Lending, tape: &[u8], book: &mut [u8], queue: &mut [u8]) -> Lending {
     }
     if kind == 10 {
         return lent(tidy_call(p, tape, book, queue), l.tables, l.priors);
+    }
+    if kind == 11 {
+        return lent(batch_call(p, tape, book, queue), l.tables, l.priors);
     }
     let read = reading(
         kind,

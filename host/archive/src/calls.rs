@@ -59,6 +59,23 @@ pub fn add_path(state: &mut [u32; 3], book: &mut [u8], queue: &mut [u8], path: &
     }
 }
 
+/// Adds the paths in the lent places up to the first that is refused, and tells how many it took.
+pub fn add_paths(
+    state: &mut [u32; 3],
+    book: &mut [u8],
+    queue: &mut [u8],
+    places: &[u8],
+    taken: &mut u32,
+) -> u32 {
+    // SAFETY: as above; `taken` is one number.
+    unsafe {
+        raw::teakpool_add_paths(
+            state.as_mut_ptr(), book.as_mut_ptr(), book.len(), queue.as_mut_ptr(), queue.len(),
+            places.as_ptr(), places.len(), taken,
+        )
+    }
+}
+
 /// Drops what counts 0: such children's entries, and nodes whose counts are all 0.
 pub fn tidy(state: &mut [u32; 3], book: &mut [u8], queue: &[u8]) -> u32 {
     // SAFETY: as above.

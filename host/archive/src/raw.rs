@@ -66,6 +66,17 @@ extern "C" {
         path: *const u8, path_len: usize,
     ) -> u32;
 
+    /// Adds the paths in the lent places, 516 bytes each, up to the first that is refused, and writes
+    /// how many were taken.
+    ///
+    /// # Safety
+    /// `state` points at three numbers, `taken` at one, the others are slices as the module says, and
+    /// `state`, `book`, `queue` and `taken` overlap nothing.
+    pub fn teakpool_add_paths(
+        state: *mut u32, book: *mut u8, book_len: usize, queue: *mut u8, queue_len: usize,
+        places: *const u8, places_len: usize, taken: *mut u32,
+    ) -> u32;
+
     /// Drops the children's entries with a count of 0 and the nodes whose counts are all 0, closes the
     /// gaps and zeroes the book from there to its end. The queue is only read.
     ///

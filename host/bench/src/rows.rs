@@ -1,21 +1,18 @@
 //! The rows of the table. A row runs the same work on both sides in turn, several rounds; what the
 //! two sides have must be the same.
 
-use crate::agree;
 use crate::clock::timed;
 use crate::load::{four_scales, Load, NODES};
-use crate::pace::Formed;
 use crate::sides::{filled, goko_address, goko_path, goko_priors, ENTRIES, MOST_ENTRIES};
-use oracle::{Goko, NodeAddress, Trace};
+use crate::{adds, agree};
+use oracle::{Goko, NodeAddress};
 use recount::same_figures;
 use std::hint::black_box;
 use teakpool::{
-    path_bytes, place_bytes, Address, Baseline, Output, Sequences, State, Tables, Tracker, ENTRY_BYTES,
-    KNOT_VALUES,
+    place_bytes, Address, Baseline, Output, Sequences, State, Tables, Tracker, ENTRY_BYTES, KNOT_VALUES,
 };
 
-/// Calls of a round: adds, readings of one node, readings of all nodes.
-const ADDS: usize = 4_000;
+/// Calls of a round: readings of one node, readings of all nodes.
 pub const READINGS: usize = 400;
 pub const LISTS: usize = 20;
 
@@ -36,18 +33,30 @@ pub fn head(ours: &str, theirs: &str, rounds: usize) {
 /// A printed row; `round` gives the two sides' microseconds.
 pub fn row(name: &str, rounds: usize, mut round: impl FnMut() -> (f64, f64)) {
     round();
-    let (ours, theirs): (Vec<f64>, Vec<f64>) = (0..rounds).map(|_| round()).unzip();
-    let mut ratios: Vec<f64> = ours.iter().zip(&theirs).map(|(ours, theirs)| ours / theirs).collect();
-    ratios.sort_by(f64::total_cmp);
-    println!(
-        "| {} | {:.2} | {:.2} | {:.2} | {:.2} to {:.2} |",
-        name,
-        median(ours),
-        median(theirs),
-        ratios[ratios.len() / 2],
-        ratios[0],
-        ratios[ratios.len() - 1]
-    );
+    rows(&[name], rounds, || {
+        let (ours, theirs) = round();
+        (vec![ours], theirs)
+    });
+}
+
+/// Printed rows that one work of goko's is held against; `round` gives the archive's microseconds for
+/// each, and goko's.
+pub fn rows(names: &[&str], rounds: usize, mut round: impl FnMut() -> (Vec<f64>, f64)) {
+    let (ours, theirs): (Vec<Vec<f64>>, Vec<f64>) = (0..rounds).map(|_| round()).unzip();
+    for (at, name) in names.iter().enumerate() {
+        let ours: Vec<f64> = ours.iter().map(|ours| ours[at]).collect();
+        let mut ratios: Vec<f64> = ours.iter().zip(&theirs).map(|(ours, theirs)| ours / theirs).collect();
+        ratios.sort_by(f64::total_cmp);
+        println!(
+            "| {} | {:.2} | {:.2} | {:.2} | {:.2} to {:.2} |",
+            name,
+            median(ours),
+            median(theirs.clone()),
+            ratios[ratios.len() / 2],
+            ratios[0],
+            ratios[ratios.len() - 1]
+        );
+    }
 }
 
 /// A printed row of a call that goko has not; `round` gives the archive's microseconds.
@@ -59,47 +68,23 @@ fn alone(name: &str, rounds: usize, mut round: impl FnMut() -> f64) {
     println!("| {} | {:.2} | | | {:.2} to {:.2} µs |", name, median(times), least, greatest);
 }
 
-/// All rows.
-pub fn print(rounds: usize) {
+/// All rows, or those of adds alone; lists have `paths` paths.
+pub fn print(adds_alone: bool, paths: usize, rounds: usize) {
     let mut load = Load::new(1, four_scales);
-    println!("goko's map is {}\n", if hashbrown::ORDERED { "ordered" } else { "hashed" });
+    println!("goko's map is {}\n", if hashbrown::ORDERED { "ordered" } else { "hashed, its own" });
     head("archive", "goko", rounds);
     let (mut memory, state, mut theirs) = filled(&mut load, MOST_ENTRIES);
     let mut ours = Tracker::resume(state, &mut memory.book, &mut memory.queue);
-    tested_adds(&mut load, &mut ours, &mut theirs, rounds);
-    formed_adds("add_path, without it", MOST_ENTRIES, &mut load, rounds);
-    formed_adds("the same, no entry free", ENTRIES, &mut load, rounds);
+    adds::single(&mut load, &mut ours, &mut theirs, rounds);
+    adds::lists(&mut load, paths, rounds);
+    if adds_alone {
+        return;
+    }
     one_node(&mut load, &ours, &theirs, rounds);
     one_child(&mut load, &theirs, rounds);
     all_nodes(&load, &ours, &theirs, rounds);
     trainings(&mut load, rounds.div_ceil(3));
     tidies(&mut load, rounds);
-}
-
-/// A round of adds on both sides.
-fn adds(load: &mut Load, mut ours: impl FnMut(&[u8]), theirs: &mut Goko) -> (f64, f64) {
-    let paths = load.paths(ADDS);
-    let bytes: Vec<Vec<u8>> = paths.iter().map(|path| path_bytes(path)).collect();
-    let traces: Vec<Trace> = paths.iter().map(|path| oracle::trace(&goko_path(path))).collect();
-    let one = timed(ADDS, || bytes.iter().for_each(|path| ours(path)));
-    let other =
-        timed(ADDS, || traces.into_iter().for_each(|trace| theirs.add_trace(trace).expect("goko takes it")));
-    (one, other)
-}
-
-fn tested_adds(load: &mut Load, ours: &mut Tracker, theirs: &mut Goko, rounds: usize) {
-    row("add_path, with its form test", rounds, || {
-        adds(load, |path| ours.add_path_bytes(path).expect("there is room"), theirs)
-    });
-    agree::counts(ours.state().used as usize, ours.book(), theirs);
-}
-
-fn formed_adds(name: &str, capacity: usize, load: &mut Load, rounds: usize) {
-    let (mut memory, state, mut theirs) = filled(load, capacity);
-    let mut ours = Formed::after(state, &mut memory.book, &mut memory.queue);
-    row(name, rounds, || adds(load, |path| ours.add_path(path), &mut theirs));
-    let (used, book) = ours.book();
-    agree::counts(used, book, &theirs);
 }
 
 /// Tidies of the full book: as its paths left it, and with all its counts above 0. What they leave must be

@@ -40,11 +40,17 @@ pub struct Memory {
     pub queue: Vec<u8>,
 }
 
+impl Memory {
+    /// Memory for a book of `capacity` entries and a queue of the window's places.
+    pub fn new(capacity: usize) -> Memory {
+        Memory { book: vec![0; ENTRY_BYTES * capacity], queue: vec![0; PLACE_BYTES * WINDOW as usize] }
+    }
+}
+
 /// Memory that holds what a first lot of paths left in it, the state for it, and goko's tracker
 /// with the same paths.
 pub fn filled(load: &mut Load, capacity: usize) -> (Memory, State, Goko) {
-    let mut memory =
-        Memory { book: vec![0; ENTRY_BYTES * capacity], queue: vec![0; PLACE_BYTES * WINDOW as usize] };
+    let mut memory = Memory::new(capacity);
     let mut ours = Tracker::open(WINDOW, &mut memory.book, &mut memory.queue).expect("the sizes are taken");
     let mut theirs = Goko::open(WINDOW as usize);
     theirs.lend_priors(&goko_priors(load), i32::MIN);

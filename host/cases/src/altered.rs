@@ -1,14 +1,14 @@
 //! Single adds on memory that others wrote: books in form whose counts fit no queue, queues
 //! whose paths the book does not know, and every way in which the form can break. The same memory is
-//! there to be tidied.
+//! there to be tidied, and for adds of several paths.
 
-use crate::paths::{lent_path, path, universe};
+use crate::paths::{lent_path, lent_places, path, place, universe};
 use crate::rng::Rng;
 use recount::limits::{ENTRY_BYTES, MAX_ACCEPTED, MAX_COUNT, MAX_WINDOW, PLACE_BYTES};
 use recount::{entry_bytes, path_bytes, Address, Memory, State};
 
 /// An add with all that it is lent.
-#[derive(Debug, Clone)]
+#[derive(Debug, Clone, PartialEq, Eq)]
 pub struct AlteredAdd {
     /// The state.
     pub state: State,
@@ -50,6 +50,23 @@ pub fn altered_add(rng: &mut Rng, places: usize) -> AlteredAdd {
     add
 }
 
+/// Places of up to five paths over what the book names: often the one before again, now and then the add's own,
+/// seldom none.
+pub fn batch(rng: &mut Rng, add: &AlteredAdd) -> Vec<u8> {
+    let entries = add.book.chunks_exact(ENTRY_BYTES).take(4);
+    let named = entries.flat_map(|entry| [Address::read(entry), Address::read(&entry[12..])]);
+    let addresses: Vec<Address> = named.chain([Address::new(0, 1)]).collect();
+    let mut paths: Vec<Vec<u8>> = Vec::new();
+    for _ in 0..rng.between(0, 5) {
+        paths.push(match paths.last() {
+            Some(last) if rng.chance(50) => last.clone(),
+            _ if rng.chance(20) => add.path.clone(),
+            _ => lent_path(rng, &addresses, 3, 4),
+        });
+    }
+    lent_places(rng, &paths, 10)
+}
+
 /// Entries in form over the addresses.
 fn entries(rng: &mut Rng, addresses: &[Address]) -> Vec<u8> {
     let mut sorted = addresses.to_vec();
@@ -82,10 +99,7 @@ fn queue(rng: &mut Rng, addresses: &[Address], window: u32) -> Vec<u8> {
     let mut queue = Vec::new();
     for _ in 0..window {
         let steps = path(rng, addresses, 3);
-        let mut place = (steps.len() as u32).to_le_bytes().to_vec();
-        place.extend(path_bytes(&steps));
-        place.resize(PLACE_BYTES, rng.pick(&[0, 0x5a]));
-        queue.extend(place);
+        queue.extend(place(steps.len() as u32, &path_bytes(&steps), rng.pick(&[0, 0x5a])));
     }
     let tail = rng.pick(&[0, 0, 4, 515]);
     queue.resize(queue.len() + tail, 0x77);

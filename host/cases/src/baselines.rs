@@ -1,7 +1,7 @@
 //! Trainings, good and refused, and baselines to ask `stats` of.
 
 use crate::calls::{PriorBytes, Tables};
-use crate::paths::{path, universe_around};
+use crate::paths::{path, place, universe_around};
 use crate::rng::Rng;
 use crate::{priors, tables};
 use recount::limits::{ENTRY_BYTES, KNOT_VALUES, PLACE_BYTES, STEP_BYTES};
@@ -59,7 +59,7 @@ pub fn training(rng: &mut Rng, (sequences, paths): (usize, usize), floor: i32) -
     let addresses = universe_around(rng, count, floor);
     let (s, n) = (rng.between(1, sequences), rng.between(0, paths));
     let rate = rng.between(1, 3);
-    let places = (0..s * n).flat_map(|_| place(rng, &addresses)).collect();
+    let places = (0..s * n).flat_map(|_| random_place(rng, &addresses)).collect();
     let most = rng.pick(&[1, 3]);
     let lent_priors = match rng.below(8) {
         0 => priors::sparse(rng, &addresses, most, 85),
@@ -88,12 +88,9 @@ pub fn training(rng: &mut Rng, (sequences, paths): (usize, usize), floor: i32) -
 }
 
 /// A queue place with a path and bytes after its steps, which nobody reads.
-fn place(rng: &mut Rng, addresses: &[Address]) -> Vec<u8> {
+fn random_place(rng: &mut Rng, addresses: &[Address]) -> Vec<u8> {
     let steps = path(rng, addresses, 4);
-    let mut place = (steps.len() as u32).to_le_bytes().to_vec();
-    place.extend(path_bytes(&steps));
-    place.resize(PLACE_BYTES, rng.pick(&[0, 0x3c]));
-    place
+    place(steps.len() as u32, &path_bytes(&steps), rng.pick(&[0, 0x3c]))
 }
 
 /// Changes one thing, often to something that is refused.

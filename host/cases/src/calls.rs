@@ -71,6 +71,8 @@ pub enum Call {
     Open { window: u32, book_len: usize, queue_len: usize },
     /// An add of a path's bytes.
     Add { path: Vec<u8> },
+    /// An add of the paths in queue places, of which the last may be cut off.
+    AddPaths { places: Vec<u8> },
     /// A tidy.
     Tidy,
     /// Lends tables.

@@ -1,11 +1,13 @@
 //! Every short list over two addresses: all paths of up to `steps` steps, all lists of `adds`
 //! of them, for given windows and capacities, with all readings at the end. With a floor the two
 //! addresses have one point. Every order of every short list over two or three, in every book from one entry
-//! to one more than it needs. Every short list with tidies at every choice of places. And every look-up in
-//! every chain over six addresses.
+//! to one more than it needs. Every short list with tidies at every choice of places, and every one with its
+//! paths added at once, whole and with something among them that is no path. And every look-up in every chain
+//! over six addresses.
 
 use crate::calls::{Call, CallList, Places, PriorBytes, Tables};
 use crate::lookups::PriorsCase;
+use crate::paths::{place, BAD_LENGTHS, CUTS};
 use crate::rng::Rng;
 use crate::{priors, tables};
 use recount::limits::{ENTRY_BYTES, PLACE_BYTES};
@@ -132,6 +134,59 @@ pub fn each_tidied<E>(mut each: impl FnMut(&CallList) -> Result<(), E>) -> Resul
         }
     }
     Ok(tried)
+}
+
+/// Calls `each` with every list of one to three paths of up to two steps over two addresses, added in every
+/// split into batches; and of one or two of them in one batch with a place that holds no path at every place
+/// among them, with a place cut off behind them, and with both: for each window up to 3, and in each book from
+/// one entry to one more than the list needs. Gives how many there are. Ends at the first that `each` fails on.
+pub fn each_batched<E>(mut each: impl FnMut(&CallList) -> Result<(), E>) -> Result<u64, E> {
+    let paths = paths(&ADDRESSES, 2);
+    let mut tried = 0;
+    for list in (1..=3).flat_map(|adds| lists(&paths, adds)).flat_map(|list| orders(&list)) {
+        let places: Vec<Vec<u8>> =
+            list.iter().map(|path| place(path.len() as u32, &path_bytes(path), 0x3c)).collect();
+        let mut ways = splits(&places);
+        if list.len() < 3 {
+            ways.extend(interrupted(&places).into_iter().map(|batch| vec![batch]));
+        }
+        for way in ways {
+            for (window, capacity) in windows_and_capacities(least(&list) + 1) {
+                tried += 1;
+                let mut calls = opening(window, capacity);
+                calls.extend(way.iter().map(|places| Call::AddPaths { places: places.clone() }));
+                each(&CallList { fill: 0xa5, calls })?;
+            }
+        }
+    }
+    Ok(tried)
+}
+
+/// The places in every split into batches that follow one another.
+fn splits(places: &[Vec<u8>]) -> Vec<Vec<Vec<u8>>> {
+    if places.is_empty() {
+        return vec![Vec::new()];
+    }
+    let beginning = |first: usize| {
+        let rests = splits(&places[first..]).into_iter();
+        rests.map(move |rest| [vec![places[..first].concat()], rest].concat())
+    };
+    (1..=places.len()).flat_map(beginning).collect()
+}
+
+/// The places in one batch, with one that holds no path at every place among them, with every cut-off place
+/// behind them, and with the former and the shortest of the latter.
+fn interrupted(places: &[Vec<u8>]) -> Vec<Vec<u8>> {
+    let last = |length: u32| place(length, &ADDRESSES[0].bytes(), 0x3c);
+    let cut = |cut: usize| last(1)[..cut].to_vec();
+    let with_bad = |at: usize| {
+        let bad = move |length: u32| [places[..at].concat(), last(length), places[at..].concat()].concat();
+        BAD_LENGTHS.into_iter().map(bad)
+    };
+    let bad: Vec<Vec<u8>> = (0..=places.len()).flat_map(with_bad).collect();
+    let both: Vec<Vec<u8>> = bad.iter().map(|bad| [&bad[..], &cut(CUTS[0])].concat()).collect();
+    let cuts = CUTS.iter().map(|left| [places.concat(), cut(*left)].concat());
+    bad.into_iter().chain(both).chain(cuts).collect()
 }
 
 fn windows_and_capacities(most: usize) -> impl Iterator<Item = (u32, usize)> {

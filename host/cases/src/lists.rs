@@ -1,9 +1,10 @@
 //! Random call lists. Each is played on the recount while it is made, so that books, tables
 //! and outputs can be a little too small, just large enough, or larger. Where tidies come between the
-//! other calls, three of four books are sized by what is needed with them.
+//! other calls, three of four books are sized by what is needed with them. Some paths may be added several
+//! at once.
 
 use crate::calls::{Call, CallList, Places, PriorBytes, Tables};
-use crate::paths::{below, floor, lent_path, universe_around, FOREIGN};
+use crate::paths::{below, floor, lent_path, lent_places, universe_around, FOREIGN};
 use crate::play::{Answer, History, Player};
 use crate::rng::Rng;
 use crate::{priors, tables};
@@ -15,6 +16,9 @@ const MOST_AHEAD: usize = 32;
 
 /// After a call where tidies come, the chance of one in a hundred.
 const TIDY_HERE: usize = 20;
+
+/// Of a hundred adds of several paths, how many have a last place that is cut off.
+const CUT_OFF: usize = 20;
 
 /// How large a list may become.
 #[derive(Debug, Clone)]
@@ -41,6 +45,8 @@ pub struct Shape {
     pub floors: usize,
     /// Of a hundred adds, how many are followed by a tidy before the next one.
     pub tidies: usize,
+    /// Of a hundred adds, how many are of several paths.
+    pub batches: usize,
 }
 
 impl Shape {
@@ -58,12 +64,18 @@ impl Shape {
             short_books: true,
             floors: 33,
             tidies: 0,
+            batches: 0,
         }
     }
 
     /// Lists with tidies, and windows that are soon passed.
     pub fn tidied() -> Shape {
         Shape { windows: vec![0, 1, 1, 2, 3], tidies: 40, ..Shape::small() }
+    }
+
+    /// Lists with adds of several paths, and tidies after so many of a hundred adds.
+    pub fn batched(tidies: usize) -> Shape {
+        Shape { windows: vec![0, 1, 2, 3], tidies, batches: 60, ..Shape::small() }
     }
 
     /// Lists that go past a long window.
@@ -80,6 +92,7 @@ impl Shape {
             short_books: false,
             floors: 50,
             tidies: 0,
+            batches: 0,
         }
     }
 }
@@ -146,9 +159,12 @@ impl Maker {
             let steps: usize = paths.iter().map(|path| path.len() / 8).sum();
             self.lend(rng, shape, steps.min(MOST_AHEAD));
         }
-        for (path, tidied) in paths.into_iter().zip(tidied) {
-            self.tidying = tidied;
-            self.add(rng, shape, Call::Add { path });
+        let mut first = 0;
+        while first < paths.len() {
+            let (add, count) = next_add(rng, shape, &paths[first..]);
+            self.tidying = tidied[first..first + count].contains(&true);
+            self.add(rng, shape, add);
+            first += count;
         }
         if shape.readings > 0 {
             self.readings(rng, shape);
@@ -160,16 +176,16 @@ impl Maker {
     }
 
     /// An add, and what follows it up to the next. Where a tidy does, a path for which there was no room is
-    /// tried again.
+    /// tried again, with those that were to come after it.
     fn add(&mut self, rng: &mut Rng, shape: &Shape, add: Call) {
-        let number = self.call(rng, add.clone()).number();
+        let answer = self.call(rng, add.clone());
         if rng.chance(shape.readings) {
             self.readings(rng, shape);
         }
         if self.tidying {
             self.play(Call::Tidy);
-            if number == 12 {
-                self.play(add);
+            if answer.number() == 12 {
+                self.play(rest(add, &answer));
             }
         }
     }
@@ -279,6 +295,25 @@ impl Maker {
             *output = places(rng, count, extra);
         }
         call
+    }
+}
+
+/// The next path by itself, or the next ones at once, none of them among the choices; and how many they are.
+fn next_add(rng: &mut Rng, shape: &Shape, paths: &[Vec<u8>]) -> (Call, usize) {
+    if shape.batches == 0 || !rng.chance(shape.batches) {
+        return (Call::Add { path: paths[0].clone() }, 1);
+    }
+    let count = rng.pick(&[0, 1, 2, 3, 5, 40]).min(paths.len());
+    (Call::AddPaths { places: lent_places(rng, &paths[..count], CUT_OFF) }, count)
+}
+
+/// What an add has left to be added.
+fn rest(add: Call, answer: &Answer) -> Call {
+    match (add, answer) {
+        (Call::AddPaths { places }, Answer::Batch(batch)) => {
+            Call::AddPaths { places: places[PLACE_BYTES * batch.taken as usize..].to_vec() }
+        }
+        (add, _) => add,
     }
 }
 

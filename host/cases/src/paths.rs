@@ -2,7 +2,8 @@
 //! zero and full books come up; scales of both signs, parts at the ends of their ranges.
 
 use crate::rng::Rng;
-use recount::{path_bytes, Address};
+use recount::limits::{MAX_STEPS, PLACE_BYTES, STEP_BYTES};
+use recount::{path_bytes, word, Address};
 
 const SCALES: [i32; 8] = [-3, -2, -1, 0, 1, 2, i32::MIN, i32::MAX];
 const POINTS: [u32; 8] = [0, 1, 2, 9, 255, 256, 0x8000_0000, u32::MAX];
@@ -87,4 +88,41 @@ pub fn lent_path(rng: &mut Rng, universe: &[Address], most: usize, bad: usize) -
     }
     bytes.truncate(length);
     bytes
+}
+
+/// Lengths that no path has: the nearest ones, one whose first byte is a length, one whose steps would be one
+/// if their bytes were counted in 32 bits, and the greatest.
+pub const BAD_LENGTHS: [u32; 5] = [0, MAX_STEPS as u32 + 1, 0x101, 0x2000_0001, u32::MAX];
+
+/// What may be left of a cut-off place: a part of its length, all of it, one step as well, all but a byte.
+pub const CUTS: [usize; 5] = [1, 3, 4, 4 + STEP_BYTES, PLACE_BYTES - 1];
+
+/// A queue place: a length, the bytes of steps, as far as there is room, and `fill` after them.
+pub fn place(length: u32, steps: &[u8], fill: u8) -> Vec<u8> {
+    let mut place = [&length.to_le_bytes()[..], steps].concat();
+    place.resize(PLACE_BYTES, fill);
+    place
+}
+
+/// The queue places of lent paths. One that is no path gets a length that is none; in `cut` of a hundred cases
+/// the last place is cut off.
+pub fn lent_places(rng: &mut Rng, paths: &[Vec<u8>], cut: usize) -> Vec<u8> {
+    let mut places = Vec::new();
+    for path in paths {
+        let whole = path.len().is_multiple_of(STEP_BYTES) && !path.is_empty();
+        let length = if whole { (path.len() / STEP_BYTES) as u32 } else { rng.pick(&BAD_LENGTHS) };
+        places.extend(place(length, path, rng.pick(&[0, 0x3c])));
+    }
+    if !places.is_empty() && rng.chance(cut) {
+        places.truncate(places.len() - PLACE_BYTES + rng.pick(&CUTS));
+    }
+    places
+}
+
+/// The bytes of a place's steps; none where it is cut off or its length is no path's.
+pub fn place_path(place: &[u8]) -> &[u8] {
+    match place.len() {
+        PLACE_BYTES => place[4..].get(..STEP_BYTES * word(place, 0) as usize).unwrap_or(&[]),
+        _ => &[],
+    }
 }

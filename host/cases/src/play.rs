@@ -4,8 +4,8 @@
 use crate::calls::{Call, Places, PriorBytes, Tables};
 use recount::{
     all_node_kl, evidence_prob_vector, kl_div_stats, memory, posterior_kl_divergence, prob_vector,
-    same_figures, Evidence, KLDivergenceStats, Memory, NodeKlList, ProbVector, Recount, Refusal, State,
-    Tracker,
+    same_figures, Batch, Evidence, KLDivergenceStats, Memory, NodeKlList, ProbVector, Recount, Refusal,
+    State, Tracker,
 };
 
 /// A tracker that calls can be played on. Before the first accepted opening its state is all
@@ -15,6 +15,8 @@ pub trait Side: Tracker {
     fn open(&mut self, window: u32, book_len: usize, queue_len: usize) -> Result<(), Refusal>;
     /// An add.
     fn add_path(&mut self, path: &[u8]) -> Result<(), Refusal>;
+    /// An add of the paths in queue places.
+    fn add_paths(&mut self, places: &[u8]) -> Batch;
     /// A tidy.
     fn tidy(&mut self) -> Result<(), Refusal>;
     /// The state.
@@ -51,6 +53,9 @@ impl Side for History {
     }
     fn add_path(&mut self, path: &[u8]) -> Result<(), Refusal> {
         self.opened_mut().add_path(path)
+    }
+    fn add_paths(&mut self, places: &[u8]) -> Batch {
+        self.opened_mut().add_paths(places)
     }
     fn tidy(&mut self) -> Result<(), Refusal> {
         self.opened_mut().tidy();
@@ -107,6 +112,10 @@ impl Side for Bytes {
         self.state = memory::add_path(self.state, book, queue, path)?;
         Ok(())
     }
+    fn add_paths(&mut self, places: &[u8]) -> Batch {
+        let (book, queue) = (&mut self.book[..self.book_len], &mut self.queue[..self.queue_len]);
+        memory::add_paths(&mut self.state, book, queue, places)
+    }
     fn tidy(&mut self) -> Result<(), Refusal> {
         let (book, queue) = (&mut self.book[..self.book_len], &self.queue[..self.queue_len]);
         self.state = memory::tidy(self.state, book, queue)?;
@@ -130,6 +139,8 @@ pub enum Answer {
     Lent,
     /// To an opening, an add or a tidy.
     Changed(Result<(), Refusal>),
+    /// To an add of several paths.
+    Batch(Batch),
     /// To a probability vector.
     Vector(Result<Option<ProbVector>, Refusal>, Places),
     /// To one node's divergence.
@@ -147,6 +158,7 @@ impl Answer {
         match (self, other) {
             (Answer::Lent, Answer::Lent) => true,
             (Answer::Changed(one), Answer::Changed(other)) => one == other,
+            (Answer::Batch(one), Answer::Batch(other)) => one == other,
             (Answer::Vector(one, left), Answer::Vector(other, right)) => {
                 let places = |vector: &Option<ProbVector>| vector.map(|vector| vector.places);
                 let same = same_result(one, other, |one, other| places(one) == places(other));
@@ -169,6 +181,7 @@ impl Answer {
         match self {
             Answer::Lent => None,
             Answer::Changed(answer) => answer.err(),
+            Answer::Batch(batch) => batch.refusal,
             Answer::Vector(answer, _) => answer.err(),
             Answer::Divergence(answer) => answer.err(),
             Answer::List(answer, _) => answer.err(),
@@ -179,6 +192,11 @@ impl Answer {
     /// The number of that refusal, 0 where it is none.
     pub fn number(&self) -> u32 {
         self.refusal().map_or(0, |refusal| refusal.number)
+    }
+
+    /// Whether the call changes the tracker.
+    pub fn changes(&self) -> bool {
+        matches!(self, Answer::Changed(Ok(())) | Answer::Batch(Batch { taken: 1.., .. }))
     }
 
     /// The figures of the answer: those in its result, then those of the places that it filled.
@@ -236,6 +254,7 @@ impl<S: Side> Player<S> {
                 Answer::Changed(self.side.open(*window, *book_len, *queue_len))
             }
             Call::Add { path } => Answer::Changed(self.side.add_path(path)),
+            Call::AddPaths { places } => Answer::Batch(self.side.add_paths(places)),
             Call::Tidy => Answer::Changed(self.side.tidy()),
             Call::LendTables(tables) => {
                 self.tables = tables.clone();

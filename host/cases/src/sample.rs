@@ -7,11 +7,16 @@ use crate::baselines::{self, StatsAsked, Training};
 use crate::calls::{Call, CallList, Places, PriorBytes, Tables};
 use crate::lists::{call_list, Shape};
 use crate::lookups::PriorsCase;
-use crate::paths::{below, floor, path, universe, universe_around};
+use crate::paths::{below, floor, path, place, universe, universe_around, BAD_LENGTHS, CUTS};
 use crate::rng::Rng;
 use crate::{priors, tables};
-use recount::limits::{ENTRY_BYTES, MAX_ENTRIES, MAX_WINDOW, PLACE_BYTES};
-use recount::{check_priors, check_tables, memory, path_bytes, record_bytes, Address, Priors, Refusal};
+use recount::limits::{
+    ENTRY_BYTES, MAX_ACCEPTED, MAX_COUNT, MAX_ENTRIES, MAX_STEPS, MAX_WINDOW, PLACE_BYTES,
+};
+use recount::{
+    check_priors, check_tables, entry_bytes, memory, path_bytes, record_bytes, Address, Priors, Refusal,
+    State,
+};
 use std::collections::BTreeMap;
 
 /// Cases of 200 seeds from `seed` on: at most `answered` that are not refused, and `refused` of
@@ -40,7 +45,7 @@ fn refusal_number<T>(result: Result<T, Refusal>) -> u32 {
 
 /// All call lists.
 pub fn all_lists() -> Vec<CallList> {
-    [call_lists(), large_lists(), reading_lists(), tidy_lists()].concat()
+    [call_lists(), large_lists(), reading_lists(), tidy_lists(), batch_lists()].concat()
 }
 
 /// Lists of openings and adds.
@@ -173,6 +178,41 @@ fn around_a_tidy() -> CallList {
     CallList { fill: 0xa5, calls }
 }
 
+/// Lists with adds of several paths, without readings and with them, some with tidies, and one with every way
+/// in which such an add ends.
+pub fn batch_lists() -> Vec<CallList> {
+    let plain = |tidies: usize| {
+        let shape = Shape { adds: (3, 9), readings: 0, floors: 0, ..Shape::batched(tidies) };
+        (0..10).map(move |seed| call_list(&mut Rng::new(10_000 + seed + tidies as u64), &shape))
+    };
+    let Shape { windows, tidies, batches, .. } = Shape::batched(30);
+    let read = Shape { windows, tidies, batches, adds: (3, 7), readings: 20, ..with_readings() };
+    let read = (0..8).map(|seed| call_list(&mut Rng::new(10_500 + seed), &read));
+    plain(0).chain(plain(30)).chain(read).chain([around_batches()]).collect()
+}
+
+/// Window 2 in a book of four entries: no places; more paths than the window holds; lengths that no path has
+/// between two paths; every cut-off place behind one, and one behind a length that no path has; a path of the
+/// most steps; a 12, behind which there is a path that fits, and the same after a tidy.
+fn around_batches() -> CallList {
+    let [one, two, three] = [Address::new(-1, 7), Address::new(0, 3), Address::new(0, 7)];
+    let holding = |path: &[Address]| place(path.len() as u32, &path_bytes(path), 0x3c);
+    let bad = |length: u32| place(length, &one.bytes(), 0x3c);
+    let add = |places: &[Vec<u8>]| Call::AddPaths { places: places.concat() };
+    let cut = |left: usize| bad(1)[..left].to_vec();
+    let full = [holding(&[one, three]), holding(&[two, three]), holding(&[one])];
+    let mut calls = vec![
+        Call::Open { window: 2, book_len: 4 * ENTRY_BYTES, queue_len: 2 * PLACE_BYTES },
+        add(&[]),
+        add(&[holding(&[one]), holding(&[one, one]), holding(&[two]), holding(&[one])]),
+    ];
+    calls.extend(BAD_LENGTHS.map(|length| add(&[holding(&[one]), bad(length), holding(&[two])])));
+    calls.extend(CUTS.map(|left| add(&[holding(&[two]), cut(left)])));
+    calls.extend([add(&[holding(&[one]), bad(0), cut(CUTS[0])]), add(&[cut(CUTS[3])])]);
+    calls.extend([add(&[holding(&[one; MAX_STEPS])]), add(&full), Call::Tidy, add(&full)]);
+    CallList { fill: 0xa5, calls }
+}
+
 /// One path of one step, with a prior of one child and D of zeros: the divergence is plus zero. The
 /// output holds minus zero past the answer.
 fn plus_zero(singleton_count: u32, g: &[f64]) -> CallList {
@@ -199,6 +239,37 @@ pub fn altered_adds() -> Vec<AlteredAdd> {
         refusal_number(memory::add_path(add.state, &mut book, &mut queue, &add.path))
     };
     balanced(4_000, (30, 18), |rng| altered_add(rng, 3), number)
+}
+
+/// Adds of several paths on memory with counts next to 2^30 and as many paths accepted as can be, or nearly so:
+/// of none, of one path three times, and with a length that no path has before the paths or between them, or one
+/// new node too many. They are not recorded.
+pub fn altered_batches() -> Vec<(AlteredAdd, Vec<u8>)> {
+    let node = Address::new(0, 3);
+    let of = |path: &[Address]| place(path.len() as u32, &path_bytes(path), 0x3c);
+    let (short, long) = (of(&[node]), of(&[node; MAX_STEPS]));
+    let [bad, other] = [place(0, &[], 0x3c), of(&[Address::new(0, 4)])];
+    let batches = [
+        Vec::new(),
+        short.repeat(3),
+        long.repeat(3),
+        [&bad[..], &short].concat(),
+        [&short[..], &bad, &short].concat(),
+        [&long[..], &other, &long].concat(),
+    ];
+    let mut cases = Vec::new();
+    for count in [MAX_COUNT - 1, MAX_COUNT, MAX_COUNT + 1] {
+        for accepted in [0, 1, MAX_ACCEPTED - 2, MAX_ACCEPTED - 1, MAX_ACCEPTED, MAX_ACCEPTED + 1] {
+            for window in 0..3 {
+                let book = [entry_bytes(node, None, count), entry_bytes(node, Some(node), count)].concat();
+                let queue = short.repeat(window as usize);
+                let state = State { window, used: 2, accepted };
+                let add = AlteredAdd { state, book, queue, path: path_bytes(&[node]) };
+                cases.extend(batches.iter().map(|places| (add.clone(), places.clone())));
+            }
+        }
+    }
+    cases
 }
 
 /// Trainings, some with floors: of those that are answered, ones that find a prior by point alone.

@@ -41,6 +41,10 @@ impl Seen {
                     self.result(&answer);
                     self.tracker(&player.side);
                 }
+                Answer::Batch(batch) => {
+                    self.result(&batch.refusal.map_or(Ok(()), Err));
+                    self.tracker(&player.side);
+                }
                 Answer::Vector(answer, _) => {
                     self.none += u32::from(matches!(answer, Ok(None)));
                     self.result(&answer);

@@ -8,9 +8,10 @@ use crate::{Compared, Laws, Tally, Total};
 use cases::baselines::{StatsAsked, Training};
 use cases::calls::{Call, CallList, Places, PriorBytes};
 use cases::lookups::{Looked, PriorsCase};
+use cases::paths::place_path;
 use cases::play::{Answer, History, Player, Side};
 use oracle::{Goko, NodeAddress, Panic};
-use recount::limits::{KNOT_VALUES, RECORD_BYTES};
+use recount::limits::{KNOT_VALUES, PLACE_BYTES, RECORD_BYTES};
 use recount::{check_priors, same_figure, word, Address, ChildLookup, Evidence, Refusal, Tracker};
 
 /// goko's form of an address.
@@ -108,8 +109,13 @@ impl Beside {
         }
         match answer {
             Answer::Lent => self.lend(played),
-            Answer::Changed(Ok(())) => self.change(call, played, laws, tally)?,
+            Answer::Changed(Ok(())) => self.change(call, 1, played, laws, tally)?,
             Answer::Changed(Err(_)) => tally.not_comparable += 1,
+            Answer::Batch(batch) => {
+                self.change(call, batch.taken as usize, played, laws, tally)?;
+                tally.met.goko_batch();
+                tally.not_comparable += u64::from(batch.refusal.is_some());
+            }
             Answer::Vector(answer, output) => self.vector(call, *answer, output, tally)?,
             Answer::Divergence(answer) => self.divergence(call, *answer, tally)?,
             Answer::List(answer, output) => self.list(*answer, output, tally)?,
@@ -141,12 +147,21 @@ impl Beside {
         self.goko.lend_priors(&goko_priors(&played.priors), played.priors.floor);
     }
 
-    fn change(&mut self, call: &Call, played: &Player<History>, laws: &Laws, tally: &mut Tally) -> Compared {
+    /// An opening, or adds of so many paths, one by one.
+    fn change(
+        &mut self,
+        call: &Call,
+        taken: usize,
+        played: &Player<History>,
+        laws: &Laws,
+        tally: &mut Tally,
+    ) -> Compared {
         tally.changes += 1;
         match call {
-            Call::Add { path } => {
-                let added = self.goko.add_path(&node_addresses(path));
-                added.map_err(|panic| format!("goko's add_path: {:?}", panic))?;
+            Call::Add { path } => self.add(path)?,
+            Call::AddPaths { places } => {
+                let mut paths = places.chunks(PLACE_BYTES).take(taken).map(place_path);
+                paths.try_for_each(|path| self.add(path))?;
             }
             _ => {
                 self.goko = Goko::open(played.side.state().window as usize);
@@ -159,6 +174,10 @@ impl Beside {
         let numbers = theirs.iter().map(|node| 1 + node.children.len()).sum();
         equal("counts", goko_evidence(&evidence), theirs)?;
         laws.hold_goko(&self.totals()?, numbers, &mut tally.met).map_err(|text| format!("goko: {}", text))
+    }
+
+    fn add(&mut self, path: &[u8]) -> Compared {
+        self.goko.add_path(&node_addresses(path)).map_err(|panic| format!("goko's add_path: {:?}", panic))
     }
 
     /// goko's evidence totals, each a whole number.

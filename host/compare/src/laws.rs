@@ -1,7 +1,9 @@
 //! What a tracker is held to after every call from an accepted opening on: its entries to the window at the
 //! last tidy and the paths since, its counts to the visits of its nodes, its used entries and its 12s to the
-//! least capacity. Each goes by W, the capacity, H and the tidies alone.
+//! least capacity, and what an add of several paths came to, to its places. Each goes by W, the capacity, H and
+//! the tidies alone.
 
+use crate::batches;
 use crate::kept::Kept;
 use crate::listed::Listed;
 use crate::met::Met;
@@ -42,6 +44,7 @@ impl Laws {
         if !self.kept.opened() || matches!(answer, Answer::Lent) {
             return Ok(());
         }
+        batches::hold(&self.kept, call, answer, met)?;
         self.room.hold(&self.kept, call, answer, used, met)?;
         self.listed.hold(&self.kept, call, answer, (used, book), met)?;
         self.visited.hold(&self.kept, call, answer, (used, book), met)

@@ -3,6 +3,7 @@
 //! `compare` runs it on many cases, and `through` holds the archive's answers against goko's.
 //! Without goko's sources the module `goko` compares nothing.
 
+mod batches;
 mod entries;
 mod floors;
 #[cfg(not(no_goko))]
@@ -23,7 +24,7 @@ mod visited;
 pub use kept::Kept;
 pub use laws::Laws;
 pub use listed::Listed;
-pub use met::{in_tidied_lists, Met};
+pub use met::{in_batched_lists, in_tidied_lists, Met};
 pub use orders::Played;
 pub use room::{hold_sequences, Room};
 pub use visited::{Total, Visited};
@@ -62,7 +63,9 @@ pub struct Tally {
     pub tried: Tried,
     /// Lists with tidies at every choice of places.
     pub tidied: u64,
-    /// What was met of floors, child look-ups, visits, room and tidies.
+    /// Lists whose paths are added at once.
+    pub batched: u64,
+    /// What was met of floors, child look-ups, visits, room, tidies and batches.
     pub met: Met,
 }
 
@@ -100,6 +103,7 @@ impl Tally {
         }
         self.tried.join(other.tried);
         self.tidied += other.tidied;
+        self.batched += other.batched;
         self.met.join(&other.met);
     }
 
@@ -107,6 +111,7 @@ impl Tally {
     pub fn met_all(&self) -> Compared {
         must(self.tried.books > 0, || "no list was tried in every order".to_string())?;
         must(self.tidied > 0, || "no list was tried with tidies at every choice of places".to_string())?;
+        must(self.batched > 0, || "no list was tried with its paths added at once".to_string())?;
         match &self.met.missing()[..] {
             [] => Ok(()),
             missing => Err(format!("nothing was compared of: {}", missing.join("; "))),
@@ -131,6 +136,7 @@ impl Tally {
             lists, orders, books
         );
         println!("{} short lists with tidies at every choice of places, in every book", self.tidied);
+        println!("{} short lists with their paths added at once, in every book", self.batched);
         self.met.print();
         if oracle::PRESENT {
             println!("with goko, {} figures bit for bit:", self.figures);

@@ -78,14 +78,11 @@ impl Listed {
     pub fn hear(&mut self, kept: &Kept, call: &Call, answer: &Answer) {
         match (call, answer) {
             (Call::Open { .. }, Answer::Changed(Ok(()))) => *self = Listed::default(),
-            (Call::Add { .. }, Answer::Changed(Ok(()))) => {
-                self.since.extend(kept.paths.last().into_iter().flat_map(|path| keys(path)));
-            }
             (Call::Tidy, Answer::Changed(Ok(()))) => {
                 self.at_tidy = kept.window_part().iter().flat_map(|path| keys(path)).collect();
                 self.since.clear();
             }
-            _ => {}
+            _ => self.since.extend(kept.added().iter().flat_map(|path| keys(path))),
         }
     }
 
@@ -113,7 +110,7 @@ impl Listed {
         met.count(HELD, true);
         match (call, answer) {
             (Call::Tidy, Answer::Changed(Ok(()))) => self.tidied(kept, &before, (used, book), met),
-            (Call::Add { .. }, Answer::Changed(Ok(()))) => self.added((used, book), met),
+            _ if !kept.added().is_empty() => self.added((used, book), met),
             _ => {}
         }
         self.follows = Some(follows(call, answer));
@@ -137,7 +134,7 @@ impl Listed {
         self.dropped.extend(dropped);
     }
 
-    /// Counts an accepted add.
+    /// Counts an add that took a path or more.
     fn added(&mut self, (used, book): (u32, &[u8]), met: &mut Met) {
         let since = &self.since;
         let again: Vec<Key> = self.dropped.intersection(since).copied().collect();
@@ -154,7 +151,7 @@ fn follows(call: &Call, answer: &Answer) -> &'static str {
     match call {
         _ if answer.refusal().is_some() => AFTER_REFUSAL,
         Call::Open { .. } => AFTER_OPENING,
-        Call::Add { .. } => AFTER_ADD,
+        Call::Add { .. } | Call::AddPaths { .. } => AFTER_ADD,
         Call::Tidy => AFTER_TIDY,
         _ => AFTER_READING,
     }

@@ -56,13 +56,14 @@ fn everything(lists: u64, seed: u64, tally: &mut Tally) -> Compared {
     let tried = exhaustive::each_order(|case| order_on_all(case, tally))?;
     tally.tried.join(tried);
     tally.tidied += exhaustive::each_tidied(|list| call_list_on_all(list, tally))?;
+    tally.batched += exhaustive::each_batched(|list| call_list_on_all(list, tally))?;
     exhaustive::every_chain().iter().try_for_each(|case| lookups_on_both(case, tally))?;
     for number in 0..lists {
         let mut rng = Rng::new(seed.wrapping_mul(1 << 32).wrapping_add(number));
         one_of_each(&mut rng, tally).map_err(|text| format!("seed {}, list {}: {}", seed, number, text))?;
     }
-    for (window, tidies) in [(1_023, 0), (1_024, 0), (1_024, 5)] {
-        let shape = Shape { tidies, ..Shape::long(window) };
+    for (window, tidies, batches) in [(1_023, 0, 0), (1_024, 0, 20), (1_024, 5, 0)] {
+        let shape = Shape { tidies, batches, ..Shape::long(window) };
         call_list_on_all(&call_list(&mut Rng::new(seed), &shape), tally)?;
     }
     Ok(())
@@ -78,11 +79,14 @@ fn recorded_sample(tally: &mut Tally) -> Compared {
         stats_on_both(&asked, tally)?;
     }
     sample::priors_cases().iter().try_for_each(|case| lookups_on_both(case, tally))?;
-    sample::altered_adds().iter().try_for_each(|add| own::check_altered(add, tally))
+    sample::altered_adds().iter().try_for_each(|add| own::check_altered(add, tally))?;
+    sample::altered_batches()
+        .iter()
+        .try_for_each(|(add, places)| own::check_batch(add, places, tally).map(|_| ()))
 }
 
-/// A call list, now and then a training, a baseline to ask, an add and a tidy on altered memory, priors with
-/// look-ups in them, and now and then a call list with tidies.
+/// A call list, now and then a training, a baseline to ask, an add, a tidy and a batch on altered memory, priors
+/// with look-ups in them, and now and then a call list with tidies and one with batches.
 fn one_of_each(rng: &mut Rng, tally: &mut Tally) -> Compared {
     call_list_on_all(&call_list(rng, &Shape::small()), tally)?;
     if rng.chance(25) {
@@ -92,12 +96,18 @@ fn one_of_each(rng: &mut Rng, tally: &mut Tally) -> Compared {
     if rng.chance(25) {
         stats_on_both(&baselines::stats_asked(rng, 6), tally)?;
     }
-    own::check_altered(&altered::altered_add(rng, 4), tally)?;
+    let add = altered::altered_add(rng, 4);
+    own::check_altered(&add, tally)?;
+    own::check_batch(&add, &altered::batch(rng, &add), tally)?;
     let lent = priors::refusable(rng);
     own::check_prior_case(&lent, tally)?;
     lookups_on_both(&lookups::random(rng, lent), tally)?;
     if rng.chance(30) {
         call_list_on_all(&call_list(rng, &Shape::tidied()), tally)?;
+    }
+    if rng.chance(30) {
+        let tidies = rng.pick(&[0, 30]);
+        call_list_on_all(&call_list(rng, &Shape::batched(tidies)), tally)?;
     }
     Ok(())
 }

@@ -1,14 +1,14 @@
-//! How often each of the things was met that a run is to meet: what `floors`, `lookups`, `visited`, `room`
-//! and `listed` name.
+//! How often each of the things was met that a run is to meet: what `floors`, `lookups`, `visited`, `room`,
+//! `listed` and `batches` name.
 
-use crate::{floors, listed, lookups, room, visited};
+use crate::{batches, floors, listed, lookups, room, visited};
 use cases::shown;
 use std::collections::BTreeMap;
 
 type Kinds = Vec<&'static str>;
 
 /// What is to be met, as far as goko's sources are there, by what it is of.
-fn to_be_met() -> [(&'static str, Kinds); 5] {
+fn to_be_met() -> [(&'static str, Kinds); 6] {
     let kinds = |met: Kinds, with_goko: &[&'static str]| -> Kinds {
         met.into_iter().chain(with_goko.iter().copied().filter(|_| oracle::PRESENT)).collect()
     };
@@ -18,12 +18,21 @@ fn to_be_met() -> [(&'static str, Kinds); 5] {
         ("of visits", kinds(visited::MET.to_vec(), &visited::MET_WITH_GOKO)),
         ("of room in the book", kinds(room::MET.to_vec(), &room::MET_WITH_GOKO)),
         ("of tidies", kinds([in_tidied_lists(), listed::ALTERED.to_vec()].concat(), &listed::MET_WITH_GOKO)),
+        (
+            "of batches",
+            kinds([in_batched_lists(), batches::ALTERED.to_vec()].concat(), &batches::MET_WITH_GOKO),
+        ),
     ]
 }
 
 /// What lists with tidies are to meet.
 pub fn in_tidied_lists() -> Kinds {
     [&listed::IN_LISTS[..], &room::WITH_TIDIES].concat()
+}
+
+/// What lists with adds of several paths are to meet.
+pub fn in_batched_lists() -> Kinds {
+    batches::IN_LISTS.to_vec()
 }
 
 /// The numbers.

@@ -1,8 +1,9 @@
 //! What the recount must do by itself, goko or not: its two parts agree byte for byte on
 //! every list, a refused call changes nothing that is lent, an answer leaves the places past
 //! it alone, after every call the bytes list and count what the paths say and use as many entries as the
-//! least capacity is, an add and a tidy on altered memory change what they may and nothing else, and a
-//! child's look-up tells what a walk along the chain finds and reads.
+//! least capacity is, an add and a tidy on altered memory change what they may and nothing else, an add of
+//! several paths there what single ones do, and a child's look-up tells what a walk along the chain finds and
+//! reads.
 
 use crate::entries::{entries, Key};
 use crate::{hold_sequences, Compared, Laws, Played, Tally};
@@ -11,11 +12,12 @@ use cases::baselines::Training;
 use cases::calls::{Call, CallList, Places, PriorBytes};
 use cases::exhaustive::Ordered;
 use cases::lookups::{Looked, PriorsCase};
+use cases::paths::place_path;
 use cases::play::{Answer, Bytes, History, Player, Side};
 use recount::limits::{ENTRY_BYTES, MAX_CHAIN, MAX_COUNT, PLACE_BYTES};
 use recount::{
     check_priors, evidence_prob_vector, is_minus_zero, memory, same_figure, same_figures, stats, word,
-    Address, ChildLookup, Memory, Output, Refusal, State, Tracker,
+    Address, Batch, ChildLookup, Memory, Output, Refusal, State, Tracker,
 };
 use std::collections::BTreeSet;
 
@@ -64,14 +66,11 @@ fn check_call(
     let recounted = history.play(call);
     must(recounted.same(&answer), &format!("the history answers {:?}, the bytes {:?}", recounted, answer))?;
     must(!answer.told().into_iter().any(is_minus_zero), "a reading told minus zero")?;
-    match answer {
-        Answer::Changed(Ok(())) => {
-            must(after == shown(&history.side), "state, book or queue is no image of the history")?;
-        }
-        _ => {
-            must(after == before, "a refused call or a reading changed the tracker")?;
-            check_output(call, &answer)?;
-        }
+    if answer.changes() {
+        must(after == shown(&history.side), "state, book or queue is no image of the history")?;
+    } else {
+        must(after == before, "a refused call or a reading changed the tracker")?;
+        check_output(call, &answer)?;
     }
     Ok(answer.number())
 }
@@ -185,10 +184,72 @@ fn check_accepted(add: &AlteredAdd, state: State, book: &[u8], queue: &[u8]) -> 
         let rest = &queue[start + 4 + add.path.len()..start + PLACE_BYTES];
         must(rest.iter().all(|byte| *byte == 0), "the place's zeros")?;
     }
-    let grown = book[..used].chunks(ENTRY_BYTES).any(|entry| word(entry, 5) > MAX_COUNT);
+    let grown = book[..used].chunks(ENTRY_BYTES).any(past_most);
     let after = Memory { state, book, queue };
     must(after.form_holds() != grown, "the form after an add breaks only by a count past 2^30")?;
     must(grown == matches!(after.evidence(), Err(Refusal { number: 9, .. })), "a reading of a broken form")
+}
+
+/// What counts near 2^30 are lowered by, so that no add comes past it.
+const LOWERED: u32 = 1 << 16;
+
+/// An add of several paths on altered memory: refused with 9 just where the form is broken, and then nothing
+/// changes. Else it comes to what single adds come to where counts near 2^30 are lowered, which else get 9 once
+/// a count is past it; and only by such a count the form is broken afterwards. Gives what it came to.
+pub fn check_batch(
+    add: &AlteredAdd,
+    places: &[u8],
+    tally: &mut Tally,
+) -> Result<(Batch, AlteredAdd), String> {
+    let mut after = add.clone();
+    let batch = memory::add_paths(&mut after.state, &mut after.book, &mut after.queue, places);
+    tally.result(&batch.refusal.map_or(Ok(()), Err));
+    let told = |text: &str| format!("{:?}\n{:?} of {:?}, {:?}\n{}", add, batch, places, after, text);
+    let came_to = |other: Batch, left: &AlteredAdd| batch == other && after == *left;
+    let refused = Batch { taken: 0, refusal: Some(Refusal::plain(9)) };
+    let (singles, left) = one_by_one(add.clone(), places);
+    let stopped = singles.refusal == refused.refusal;
+    tally.met.altered_batch(places, batch, stopped, &after.memory());
+    if !add.memory().form_holds() {
+        must(came_to(refused, add), &told("the form is broken"))?;
+        return Ok((batch, after));
+    }
+    must(stopped || came_to(singles, &left), &told("single adds come to something else"))?;
+    let (singles, left) = one_by_one(shifted(add.clone(), |count| count - LOWERED), places);
+    let raised = shifted(left, |count| count + LOWERED);
+    must(came_to(singles, &raised), &told("single adds with lowered counts come to something else"))?;
+    let grown = after.book.chunks_exact(ENTRY_BYTES).take(after.state.used as usize).any(past_most);
+    must(after.memory().form_holds() != grown, &told("a count past 2^30 alone breaks the form"))?;
+    Ok((batch, after))
+}
+
+fn past_most(entry: &[u8]) -> bool {
+    word(entry, 5) > MAX_COUNT
+}
+
+/// The paths of the places in single adds up to the first that is refused, a place without one as a path of no
+/// steps; and what they leave.
+fn one_by_one(mut add: AlteredAdd, places: &[u8]) -> (Batch, AlteredAdd) {
+    let mut taken = 0;
+    for place in places.chunks(PLACE_BYTES) {
+        match memory::add_path(add.state, &mut add.book, &mut add.queue, place_path(place)) {
+            Ok(state) => add.state = state,
+            Err(refusal) => return (Batch { taken, refusal: Some(refusal) }, add),
+        }
+        taken += 1;
+    }
+    (Batch { taken, refusal: None }, add)
+}
+
+/// The memory with other counts in place of the great ones.
+fn shifted(mut add: AlteredAdd, other: impl Fn(u32) -> u32) -> AlteredAdd {
+    for entry in add.book.chunks_mut(ENTRY_BYTES).take(add.state.used as usize) {
+        let count = word(entry, 5);
+        if count > LOWERED {
+            entry[20..].copy_from_slice(&other(count).to_le_bytes());
+        }
+    }
+    add
 }
 
 /// A training: refused before its work it changes nothing, stopped it leaves zeros.

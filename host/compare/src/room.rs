@@ -64,13 +64,13 @@ impl Room {
     pub fn hear(&mut self, kept: &Kept, call: &Call, answer: &Answer) {
         match (call, answer) {
             (Call::Open { .. }, Answer::Changed(Ok(()))) => *self = Room::default(),
-            (Call::Add { .. }, Answer::Changed(Ok(()))) => {
-                self.least = least(kept.listing());
-                self.ended.extend(kept.paths.last().and_then(|path| path.last()));
-            }
             (Call::Tidy, Answer::Changed(Ok(()))) => {
                 self.least = least(kept.listing());
                 self.refused_before.append(&mut self.refused);
+            }
+            _ if !kept.added().is_empty() => {
+                self.least = least(kept.listing());
+                self.ended.extend(kept.added().iter().filter_map(|path| path.last()));
             }
             _ => {}
         }

@@ -44,13 +44,13 @@ impl Visited {
     pub fn hear(&mut self, kept: &Kept, call: &Call, answer: &Answer) {
         match (call, answer) {
             (Call::Open { .. }, Answer::Changed(Ok(()))) => *self = Visited::default(),
-            (Call::Add { .. }, Answer::Changed(Ok(()))) => {
+            _ if !kept.added().is_empty() => {
                 let window_part = kept.window_part();
                 self.visits = visits(window_part);
                 self.held = window_part.iter().flatten().copied().collect();
                 self.steps = step_count(window_part);
                 let left = kept.paths.len() - window_part.len();
-                self.began.extend(kept.paths[..left].last().map(|path| path[0]));
+                self.began = kept.paths[..left].iter().map(|path| path[0]).collect();
             }
             _ => {}
         }
@@ -74,7 +74,7 @@ impl Visited {
         met.count(REFUSED, answer.refusal().is_some());
         match (call, answer) {
             (Call::Open { .. }, Answer::Changed(Ok(()))) => met.count(ANEW, had_paths),
-            (Call::Add { .. }, Answer::Changed(Ok(()))) => met.added(kept, self, &totals),
+            _ if !kept.added().is_empty() => met.added(kept, self, &totals),
             (Call::Tidy, Answer::Changed(Ok(()))) => {
                 let without = totals.iter().find(|(_, total)| *total == 0);
                 must(without.is_none(), || format!("{:?} is listed after a tidy", without))?;
@@ -118,9 +118,9 @@ fn totals(used: u32, book: &[u8]) -> Result<Vec<Total>, String> {
 }
 
 impl Met {
-    /// Counts an accepted add, after which the listed nodes have these totals.
+    /// Counts an add that took a path or more, after which the listed nodes have these totals.
     fn added(&mut self, kept: &Kept, visited: &Visited, totals: &[Total]) {
-        if let Some(path) = kept.paths.last() {
+        for path in kept.added() {
             let by_this_path = visits(std::slice::from_ref(path));
             self.count(TWICE, by_this_path.values().any(|visits| *visits > 1));
             self.count(TO_ITSELF, path.windows(2).any(|pair| pair[0] == pair[1]));

@@ -6,6 +6,7 @@
 //! numbers.
 
 mod address;
+mod batch;
 mod evidence;
 mod figures;
 mod least;
@@ -21,10 +22,11 @@ mod training;
 mod visits;
 
 pub use address::{path_bytes, steps, word, Address};
+pub use batch::Batch;
 pub use evidence::{window_part, Evidence, NodeEvidence};
 pub use figures::{is_minus_zero, same_figure, same_figures};
 pub use least::least;
-pub use memory::{add_path, open, tidy, Memory};
+pub use memory::{add_path, add_paths, open, tidy, Memory};
 pub use priors::{check_priors, child, record_bytes, ChildLookup, LentPriors, Prior, Priors};
 pub use readings::{
     all_node_kl, evidence_prob_vector, kl_div_stats, posterior_kl_divergence, prob_vector, KLDivergenceStats,

@@ -1,9 +1,11 @@
 //! One call on given state, book and queue, whoever wrote them. Each call but an opening
 //! tests the form first (9). An add then adds, takes away the path that leaves, never below
 //! 0 and passing over what is missing, and writes its place whole. Bytes past the new used
-//! entries stay as they were. A tidy drops entries, by counts alone, and zeroes those bytes.
+//! entries stay as they were. An add of several paths does so with each in turn, and tests the
+//! form no more. A tidy drops entries, by counts alone, and zeroes those bytes.
 
 use crate::address::{steps, word, Address};
+use crate::batch::{in_turn, Batch};
 use crate::evidence::Evidence;
 use crate::limits::{ENTRY_BYTES, MAX_ACCEPTED, MAX_COUNT, MAX_STEPS, MAX_WINDOW, PLACE_BYTES, STEP_BYTES};
 use crate::readings::Tracker;
@@ -48,9 +50,27 @@ pub fn open(window: u32, book: &mut [u8], queue: &mut [u8]) -> Result<State, Ref
 
 /// An add: 9, 10, 11, 12; else the new state, with book and queue changed.
 pub fn add_path(state: State, book: &mut [u8], queue: &mut [u8], path: &[u8]) -> Result<State, Refusal> {
-    let mut evidence = Memory { state, book, queue }.evidence()?;
+    refuse(9, !Memory { state, book, queue }.form_holds())?;
+    add_formed(state, book, queue, path)
+}
+
+/// Adds of the paths in lent places, up to the first that is refused. 9 is tested once, before them all; a
+/// count past 2^30, which only memory that others wrote comes to, does not stop them.
+pub fn add_paths(state: &mut State, book: &mut [u8], queue: &mut [u8], places: &[u8]) -> Batch {
+    if !(Memory { state: *state, book, queue }).form_holds() {
+        return Batch { taken: 0, refusal: Some(Refusal::plain(9)) };
+    }
+    in_turn(places, |path| {
+        *state = add_formed(*state, book, queue, path)?;
+        Ok(())
+    })
+}
+
+/// An add behind its form test: 10, 11, 12.
+fn add_formed(state: State, book: &mut [u8], queue: &mut [u8], path: &[u8]) -> Result<State, Refusal> {
     check_path(path)?;
     refuse(11, state.accepted >= MAX_ACCEPTED)?;
+    let mut evidence = Memory { state, book, queue }.counted();
     let path = steps(path);
     add(&mut evidence, &path);
     refuse(12, evidence.entries() > book.len() / ENTRY_BYTES)?;
@@ -109,16 +129,8 @@ impl Memory<'_> {
         self.book.chunks(ENTRY_BYTES).take(self.state.used as usize).map(entry).collect()
     }
 
-    fn places_hold(&self) -> bool {
-        let filled = self.state.window.min(self.state.accepted) as usize;
-        let length_holds = |place: &[u8]| (1..=MAX_STEPS).contains(&(word(place, 0) as usize));
-        self.queue.chunks(PLACE_BYTES).take(filled).all(length_holds)
-    }
-}
-
-impl Tracker for Memory<'_> {
-    fn evidence(&self) -> Result<Evidence, Refusal> {
-        refuse(9, !self.form_holds())?;
+    /// What the used entries count, whatever the form.
+    fn counted(&self) -> Evidence {
         let State { window, accepted, .. } = self.state;
         let mut evidence = Evidence::default();
         for entry in self.entries() {
@@ -131,7 +143,20 @@ impl Tracker for Memory<'_> {
             }
         }
         evidence.sequence_len = if window == 0 { accepted } else { window.min(accepted) };
-        Ok(evidence)
+        evidence
+    }
+
+    fn places_hold(&self) -> bool {
+        let filled = self.state.window.min(self.state.accepted) as usize;
+        let length_holds = |place: &[u8]| (1..=MAX_STEPS).contains(&(word(place, 0) as usize));
+        self.queue.chunks(PLACE_BYTES).take(filled).all(length_holds)
+    }
+}
+
+impl Tracker for Memory<'_> {
+    fn evidence(&self) -> Result<Evidence, Refusal> {
+        refuse(9, !self.form_holds())?;
+        Ok(self.counted())
     }
 }
 

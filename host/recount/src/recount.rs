@@ -2,6 +2,7 @@
 //! bytes and queue bytes are images of these, worked out afresh whenever they are asked for.
 
 use crate::address::{path_bytes, steps, Address};
+use crate::batch::{in_turn, Batch};
 use crate::evidence::{window_part, Evidence};
 use crate::limits::{ENTRY_BYTES, MAX_ACCEPTED, MAX_ENTRIES, MAX_STEPS, MAX_WINDOW, PLACE_BYTES, STEP_BYTES};
 use crate::readings::Tracker;
@@ -38,6 +39,11 @@ impl Recount {
             return Err(Refusal::plain(12));
         }
         Ok(())
+    }
+
+    /// Adds of the paths in lent places, up to the first that is refused: 10, 11, 12.
+    pub fn add_paths(&mut self, places: &[u8]) -> Batch {
+        in_turn(places, |path| self.add_path(path))
     }
 
     /// A tidy: what the window part holds stays listed, and what left it is listed no more. W and H stay,

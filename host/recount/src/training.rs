@@ -2,8 +2,8 @@
 //! path i, where i mod rate is 0, its statistics go to the knot i + 1. Tested first are 1 to
 //! 7 and 22, 9 on the book's size, 16 and 13; 10, 12, 14 and 15 stop it and leave zeros.
 
-use crate::address::word;
-use crate::limits::{KNOT_VALUES, MAX_KNOTS, MAX_PATHS, MAX_STEPS, PLACE_BYTES, SEQUENCES, STEP_BYTES};
+use crate::batch::path_in;
+use crate::limits::{KNOT_VALUES, MAX_KNOTS, MAX_PATHS, PLACE_BYTES, SEQUENCES};
 use crate::priors::{check_priors, LentPriors, Priors};
 use crate::readings::{statistics, KLDivergenceStats};
 use crate::recount::{book_len_holds, Recount};
@@ -99,13 +99,6 @@ fn work(
         }
     }
     Ok((knots, values))
-}
-
-/// The bytes of a place's steps; 10 where the length is not 1 to 64.
-fn path_in(place: &[u8]) -> Result<&[u8], Refusal> {
-    let length = word(place, 0) as usize;
-    refuse(10, !(1..=MAX_STEPS).contains(&length))?;
-    Ok(&place[4..4 + STEP_BYTES * length])
 }
 
 /// Adds one record to a knot: each figure and its square.

@@ -136,9 +136,9 @@ impl<'a> Baseline<'a> {
     }
 }
 
-/// A path as a queue place: its length, its steps, zeros. A path of more than 64 steps has no
-/// place; its length is written, or the greatest there is where 32 bits do not hold it, and the call
-/// that reads it gives 10.
+/// A path as a queue place, for a training's sequences and for lists of paths: its length, its steps,
+/// zeros. A path of more than 64 steps has no place; its length is written, or the greatest there is
+/// where 32 bits do not hold it, and the call that reads it gives 10.
 ///
 /// ```
 /// use teakpool::{place_bytes, Address};

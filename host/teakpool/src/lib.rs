@@ -1,12 +1,14 @@
 //! The drift watch of a steering kit as a safe Rust crate over the proved archive, for x86-64 Linux.
 //! A [`Tracker`] counts the paths that a machine takes through a tree of nodes, in a book and a queue
-//! that it is lent, and [tidies](Tracker::tidy) the book when it is told to; [`Tables`] and [`Priors`] are
-//! lent to readings and trainings, and a child's count can be asked for in priors alone; a [`Baseline`]
-//! tells what figures are usual at a sequence length. The rules are in the repository's docs/RULES.md.
+//! that it is lent, one by one or [a list at a time](Tracker::add_paths), and [tidies](Tracker::tidy) the
+//! book when it is told to; [`Tables`] and [`Priors`] are lent to readings and trainings, and a child's
+//! count can be asked for in priors alone; a [`Baseline`] tells what figures are usual at a sequence length.
+//! The rules are in the repository's docs/RULES.md.
 //!
 //! A call that is turned back gives a [`Refusal`] and changes nothing that it was lent, but for a
-//! training that has begun. A reading that has no answer gives `Ok(None)`, a look-up of a child that
-//! is not there `Ok` with no count. Nothing is allocated by a call, and nothing is kept between calls.
+//! training that has begun, and for a list of paths, which gives [`Stopped`] and keeps those before the
+//! refused one. A reading that has no answer gives `Ok(None)`, a look-up of a child that is not there `Ok`
+//! with no count. Nothing is allocated by a call, and nothing is kept between calls.
 //!
 //! Figures are promised by their 64 bits (`f64::to_bits`), any NaN as any NaN; `==` on the answers holds
 //! plus zero and minus zero equal, as Rust does. No reading tells minus zero; [`Baseline::stats`] can.
@@ -70,12 +72,12 @@ pub use gamma::{gamma_tables, GammaTables};
 #[cfg(feature = "std")]
 pub use lent::PriorRecords;
 pub use lent::{record_bytes, ChildLookup, Priors, Tables, RECORD_BYTES};
-pub use refusal::Refusal;
+pub use refusal::{Refusal, Stopped};
 pub use tracker::{
     try_path, KLDivergenceStats, NodeKlList, Output, ProbVector, State, Tracker, ENTRY_BYTES, PLACE_BYTES,
 };
 
-/// The crate's version, as `"0.4.0"`.
+/// The crate's version, as `"0.5.0"`.
 pub const VERSION: &str = env!("CARGO_PKG_VERSION");
 
 /// The linked archive's version: major, minor, patch.

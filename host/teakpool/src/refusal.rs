@@ -179,6 +179,45 @@ impl fmt::Display for Refusal {
 
 impl Error for Refusal {}
 
+/// Why a list of paths was added only in part ([`Tracker::add_paths`](crate::Tracker::add_paths)). The
+/// paths before the refused one are in the tracker; it and those after it are not. `?` makes a [`Refusal`]
+/// of it.
+///
+/// ```
+/// use teakpool::{Refusal, Stopped};
+///
+/// let stopped = Stopped { taken: 3, refusal: Refusal::PathLength };
+/// assert_eq!(stopped.to_string(), "refusal 10: path not 1 to 64 whole steps, after 3 paths of the list");
+/// assert_eq!(Refusal::from(stopped), Refusal::PathLength);
+/// ```
+#[derive(Debug, Clone, Copy, PartialEq, Eq)]
+pub struct Stopped {
+    /// Paths that were taken, and so the index of the refused one in the list, from 0: it lies at
+    /// `taken as usize * PLACE_BYTES`.
+    pub taken: u32,
+    /// Why the next path was not taken, or for 9 the whole list.
+    pub refusal: Refusal,
+}
+
+impl fmt::Display for Stopped {
+    fn fmt(&self, f: &mut fmt::Formatter) -> fmt::Result {
+        let paths = if self.taken == 1 { "path" } else { "paths" };
+        write!(f, "{}, after {} {} of the list", self.refusal, self.taken, paths)
+    }
+}
+
+impl Error for Stopped {
+    fn source(&self) -> Option<&(dyn Error + 'static)> {
+        Some(&self.refusal)
+    }
+}
+
+impl From<Stopped> for Refusal {
+    fn from(stopped: Stopped) -> Refusal {
+        stopped.refusal
+    }
+}
+
 /// What an answer without a value gives.
 pub(crate) fn done(answer: u32, node: Address) -> Result<(), Refusal> {
     match answer {
@@ -197,8 +236,9 @@ pub(crate) fn answered<T>(answer: u32, node: Address, value: T) -> Result<Option
 
 #[cfg(test)]
 mod tests {
-    use super::Refusal;
+    use super::{Refusal, Stopped};
     use crate::Address;
+    use core::error::Error;
     use std::format;
     use std::string::ToString;
     use std::vec::Vec;
@@ -234,6 +274,15 @@ mod tests {
             assert_eq!(refusal.to_string(), format!("refusal {}: {}{}", number, when, end));
         }
         assert!(table().map(|(number, _)| number).eq((1..=18).chain([22])));
+    }
+
+    #[test]
+    fn a_list_that_was_stopped_tells_both() {
+        let stopped = Stopped { taken: 1, refusal: Refusal::BookFull };
+        let text = "refusal 12: listed nodes plus transitions would exceed capacity";
+        assert_eq!(stopped.to_string(), format!("{}, after 1 path of the list", text));
+        assert_eq!(stopped.source().map(ToString::to_string).as_deref(), Some(text));
+        assert_eq!(Refusal::from(stopped), Refusal::BookFull);
     }
 
     #[test]

@@ -1,12 +1,12 @@
 //! A tracker: its state, and the book and queue that it is lent. The readings change nothing.
 
 use crate::address::PathBytes;
-use crate::refusal::{answered, done};
+use crate::refusal::{answered, done, Stopped};
 use crate::{Address, Priors, Refusal, Tables, MAX_STEPS};
 
 /// Bytes of a book entry.
 pub const ENTRY_BYTES: usize = 24;
-/// Bytes of a queue place, and of a path in a training's sequences.
+/// Bytes of a queue place, of a path in a list of paths, and of one in a training's sequences.
 pub const PLACE_BYTES: usize = 516;
 
 /// The state beside book and queue.
@@ -261,6 +261,41 @@ impl<'m> Tracker<'m> {
         done(answer, Address::default())?;
         self.state = State::of(state);
         Ok(())
+    }
+
+    /// Adds a list of paths, each as [`Tracker::add_path`] adds it, up to the first that is refused, and
+    /// tells how many it took: 516 bytes a path, as [`place_bytes`](crate::place_bytes) makes them; bytes
+    /// after a path's steps are not read. The form is tested once, when the call begins, so that a long list
+    /// costs much less than its paths one by one. For that the call takes about 100 KB of stack, and zeroes
+    /// and fills tables there: it pays from some 100 paths on.
+    ///
+    /// # Errors
+    /// 9 for the tracker's form, and nothing changes. Then the first path that is refused ends the call, and
+    /// those before it stay in: 10 where under 516 bytes are left for it or its number of steps is not 1 to
+    /// 64, 11 and 12 as in `add_path`. [`Stopped`] tells how many were taken, so which path it was; what
+    /// comes after it was not tried.
+    ///
+    /// ```
+    /// use teakpool::{place_bytes, Address, Refusal, State, Stopped, Tracker, ENTRY_BYTES, PLACE_BYTES};
+    ///
+    /// let (mut book, mut queue) = ([0; 5 * ENTRY_BYTES], [0; PLACE_BYTES]);
+    /// let mut tracker = Tracker::open(1, &mut book, &mut queue)?;
+    /// let path_to = |point: u32| place_bytes(&[Address::new(1, 7), Address::new(0, point)]);
+    /// let day = [9, 9, 7, 8, 8].map(path_to).concat();
+    ///
+    /// // Two children fill the book, so that there is no room for 0/8 until 0/9 is tidied away.
+    /// let stopped = tracker.add_paths(&day);
+    /// assert_eq!(stopped, Err(Stopped { taken: 3, refusal: Refusal::BookFull }));
+    /// tracker.tidy()?;
+    /// assert_eq!(tracker.add_paths(&day[3 * PLACE_BYTES..]), Ok(2));
+    /// assert_eq!(tracker.state(), State { window: 1, used: 5, accepted: 5 });
+    /// # Ok::<(), Refusal>(())
+    /// ```
+    pub fn add_paths(&mut self, places: &[u8]) -> Result<u32, Stopped> {
+        let (mut state, mut taken) = (self.state.words(), 0);
+        let answer = archive::add_paths(&mut state, self.book, self.queue, places, &mut taken);
+        self.state = State::of(state);
+        done(answer, Address::default()).map(|()| taken).map_err(|refusal| Stopped { taken, refusal })
     }
 
     /// Tidies the book: drops every child entry with a count of 0 and every node whose ending and children

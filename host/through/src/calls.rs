@@ -8,7 +8,7 @@ use cases::baselines::Training;
 use cases::calls::{Places, PriorBytes, Tables};
 use cases::lookups::Looked;
 use recount::limits::KNOT_VALUES;
-use recount::{Address, ChildLookup, KLDivergenceStats, NodeKlList, ProbVector, Refusal, State};
+use recount::{Address, Batch, ChildLookup, KLDivergenceStats, NodeKlList, ProbVector, Refusal, State};
 
 /// What results hold before a call.
 const UNWRITTEN: u32 = 0x5eed_5eed;
@@ -38,6 +38,7 @@ pub struct Archive {
     read: Lent<u32>,
     node_scale: Lent<i32>,
     node_point: Lent<u32>,
+    /// The places of a training, or of an add of several paths.
     sequences: Lent<u8>,
     knots: Lent<u32>,
     values: Lent<f64>,
@@ -248,6 +249,23 @@ impl Archive {
         self.bands()?;
         must(self.path.now() == path, "an add changed its path")?;
         Ok(carried_out(answer))
+    }
+
+    /// `teakpool_add_paths`, which tells how many it took in every case.
+    pub fn add_paths(&mut self, places: &[u8]) -> Told<Batch> {
+        self.sequences.lay(places);
+        self.count.lay(&[UNWRITTEN]);
+        let answer = archive::add_paths(
+            self.state.array_mut(),
+            self.book.now_mut(),
+            self.queue.now_mut(),
+            self.sequences.now(),
+            self.count.number_mut(),
+        );
+        self.bands()?;
+        must(self.sequences.now() == places, "an add of several paths changed its places")?;
+        must(!unwritten(&self.count, UNWRITTEN), "how many paths were taken was not told")?;
+        Ok(Batch { taken: self.count.now()[0], refusal: carried_out(answer).err() })
     }
 
     /// `teakpool_tidy`. That it leaves the queue alone is for `holds` to tell.

@@ -11,7 +11,7 @@ use cases::exhaustive::Ordered;
 use cases::lookups::PriorsCase;
 use cases::play::{same_result, Answer, History, Player, Side};
 use compare::goko::{self, Beside};
-use compare::{hold_sequences, must, Compared, Laws, Played, Tally};
+use compare::{hold_sequences, must, own, Compared, Laws, Played, Tally};
 use recount::{
     all_node_kl, check_priors, check_tables, evidence_prob_vector, kl_div_stats, memory,
     posterior_kl_divergence, prob_vector, same_figures, Address, Memory, Refusal, State,
@@ -29,6 +29,7 @@ fn play(archive: &mut Archive, call: &Call, fill: u8) -> Told<Answer> {
             Answer::Changed(archive.open(*window, (*book_len, *queue_len), fill)?)
         }
         Call::Add { path } => Answer::Changed(archive.add_path(path)?),
+        Call::AddPaths { places } => Answer::Batch(archive.add_paths(places)?),
         Call::Tidy => Answer::Changed(archive.tidy()?),
         Call::LendTables(tables) => {
             archive.lend_tables(tables);
@@ -102,7 +103,7 @@ fn one_call(
     tally.answer(&recounted);
     tally.met.reading(call, &recounted, &history.side, &history.priors);
     must(recounted.same(&answer), || differ("answer", &recounted, &answer))?;
-    if let Answer::Changed(Ok(())) = answer {
+    if answer.changes() {
         let side = &history.side;
         *image = Some(Held { state: side.state(), book: side.book(), queue: side.queue() });
     }
@@ -121,7 +122,7 @@ pub fn altered(
     (tables, priors, output): (&Tables, &PriorBytes, &Places),
     tally: &mut Tally,
 ) -> Compared {
-    let held = Held { state: add.state, book: add.book.clone(), queue: add.queue.clone() };
+    let held = held_by(add);
     archive.hold(&held);
     archive.lend_tables(tables);
     archive.lend_priors(priors);
@@ -144,6 +145,25 @@ pub fn altered(
     let left = |after: &mut Held| memory::add_path(held.state, &mut after.book, &mut after.queue, &add.path);
     let held = as_recounted(archive, &held, answer, left, tally);
     held.map(|_| ()).map_err(|text| format!("an add of {:?}\n{}", add.path, text))
+}
+
+/// An add of several paths on memory that others wrote, and then the add, which gets 9 where a count is past
+/// 2^30.
+pub fn batch(archive: &mut Archive, add: &AlteredAdd, places: &[u8], tally: &mut Tally) -> Compared {
+    archive.hold(&held_by(add));
+    let answer = archive.add_paths(places)?;
+    let (recounted, after) = own::check_batch(add, places, tally)?;
+    let after = held_by(&after);
+    let told = |text: String| format!("{:?} on {:?}\n{}", places, add, text);
+    must(recounted == answer, || told(differ("answer", recounted, answer)))?;
+    must(archive.holds(&after), || told(differ("state, book and queue", &after, archive.held())))?;
+    let next = archive.add_path(&add.path)?;
+    let left = |then: &mut Held| memory::add_path(then.state, &mut then.book, &mut then.queue, &add.path);
+    as_recounted(archive, &after, next, left, tally).map(|_| ()).map_err(told)
+}
+
+fn held_by(add: &AlteredAdd) -> Held {
+    Held { state: add.state, book: add.book.clone(), queue: add.queue.clone() }
 }
 
 /// A tidy of memory, whoever wrote it, and a second one.

@@ -1,21 +1,24 @@
-//! Every short list, also in every order and with tidies at every choice of places, every short chain, the
-//! recorded sample, and cases at the limits: tables of 1, 2, 1,048,576 and 1,048,577 entries and a U at the
-//! last index, priors of the most records and one more, as many in scales of their own below a floor, chains
-//! of 62 to 65 with look-ups in them, books and queues at their largest sizes, the largest book full, and
-//! tidied, long windows, 1,024 knots and one more.
+//! Every short list, also in every order, with tidies at every choice of places and with its paths added at
+//! once, every short chain, the recorded sample, and cases at the limits: tables of 1, 2, 1,048,576 and
+//! 1,048,577 entries and a U at the last index, priors of the most records and one more, as many in scales of
+//! their own below a floor, chains of 62 to 65 with look-ups in them, books and queues at their largest sizes,
+//! the largest book full, also by one batch, and tidied, long windows, counts far past 2^30, thousands of paths
+//! at once, 1,024 knots and one more.
 
 use crate::calls::{Archive, Held};
 use crate::check;
+use cases::altered::AlteredAdd;
 use cases::baselines::Training;
 use cases::calls::{Call, CallList, Places, PriorBytes, Tables};
 use cases::exhaustive::Ordered;
 use cases::lists::{call_list, Shape};
+use cases::paths::place;
 use cases::rng::Rng;
 use cases::{exhaustive, lookups, priors, sample, tables};
 use compare::{must, Compared, Tally};
 use recount::limits::{
-    ENTRY_BYTES, KNOT_VALUES, MAX_CHAIN, MAX_CHILDREN, MAX_ENTRIES, MAX_KNOTS, MAX_NODES, MAX_STEPS,
-    PLACE_BYTES,
+    ENTRY_BYTES, KNOT_VALUES, MAX_CHAIN, MAX_CHILDREN, MAX_COUNT, MAX_ENTRIES, MAX_KNOTS, MAX_NODES,
+    MAX_STEPS, MAX_WINDOW, PLACE_BYTES,
 };
 use recount::{entry_bytes, least, path_bytes, record_bytes, Address, State};
 
@@ -25,6 +28,9 @@ pub fn all(archive: &mut Archive, tally: &mut Tally) -> Compared {
     let output = Places { addresses: vec![0x11; 64], figures: vec![-1.0; 8] };
     let beside = (&tables::gamma(40), &PriorBytes::default(), &output);
     sample::altered_adds().iter().try_for_each(|add| check::altered(archive, add, beside, tally))?;
+    for (add, places) in sample::altered_batches() {
+        check::batch(archive, &add, &places, tally)?;
+    }
     sample::trainings().iter().try_for_each(|training| check::training(archive, training, tally))?;
     sample::stats_asked().iter().try_for_each(|asked| check::stats(archive, asked, tally))?;
     sample::table_cases().iter().try_for_each(|tables| check::tables(archive, tables, tally))?;
@@ -37,6 +43,7 @@ pub fn all(archive: &mut Archive, tally: &mut Tally) -> Compared {
     let tried = exhaustive::each_order(|case| check::order(archive, case, tally))?;
     tally.tried.join(tried);
     tally.tidied += exhaustive::each_tidied(|list| check::list(archive, list, tally))?;
+    tally.batched += exhaustive::each_batched(|list| check::list(archive, list, tally))?;
     exhaustive::under_floors().iter().try_for_each(|lent| check::priors(archive, lent, tally))?;
     table_lengths(archive, tally)?;
     prior_sizes(archive, tally)?;
@@ -44,9 +51,11 @@ pub fn all(archive: &mut Archive, tally: &mut Tally) -> Compared {
     scales_below_a_floor(archive, tally)?;
     fullest_book(archive, tally)?;
     tidied_books(archive, tally)?;
+    large_batches(archive, tally)?;
+    long_days(archive)?;
     knots(archive, tally)?;
-    [(1_023, 0), (1_024, 0), (1_024, 5)].into_iter().try_for_each(|(window, tidies)| {
-        let shape = Shape { tidies, ..Shape::long(window) };
+    [(1_023, 0, 0), (1_024, 0, 20), (1_024, 5, 0)].into_iter().try_for_each(|(window, tidies, batches)| {
+        let shape = Shape { tidies, batches, ..Shape::long(window) };
         check::list(archive, &call_list(&mut Rng::new(u64::from(window)), &shape), tally)
     })
 }
@@ -218,11 +227,85 @@ fn tidied_books(archive: &mut Archive, tally: &mut Tally) -> Compared {
     Ok(())
 }
 
+/// The queue place of a path, with bytes behind its steps.
+fn placed(path: &[Address]) -> Vec<u8> {
+    place(path.len() as u32, &path_bytes(path), 0x3c)
+}
+
+/// A batch that fills the largest book, in two orders, and in a book of one entry less; one that goes past the
+/// longest window; and one that brings counts of 2^30 far past it.
+fn large_batches(archive: &mut Archive, tally: &mut Tally) -> Compared {
+    let mut paths = filling_paths();
+    for _ in 0..2 {
+        for capacity in [MAX_ENTRIES - 1, MAX_ENTRIES] {
+            let places = paths.iter().flat_map(|path| placed(path)).collect();
+            let calls = [adds_to(capacity, &[]), vec![Call::AddPaths { places }]].concat();
+            check::list(archive, &CallList { fill: 0xa5, calls }, tally)?;
+        }
+        paths.reverse();
+    }
+    let queue_len = PLACE_BYTES * MAX_WINDOW as usize;
+    let path =
+        |number: usize| placed(&[Address::new(0, number as u32 % 7), Address::new(0, number as u32 % 5)]);
+    let calls = vec![
+        Call::Open { window: MAX_WINDOW, book_len: 48 * ENTRY_BYTES, queue_len },
+        Call::AddPaths { places: (0..MAX_WINDOW as usize + 80).flat_map(path).collect() },
+    ];
+    check::list(archive, &CallList { fill: 0xa5, calls }, tally)?;
+    let book = [entry_bytes(NODE, None, MAX_COUNT), entry_bytes(NODE, Some(NODE), MAX_COUNT)].concat();
+    let state = State { window: 0, used: 2, accepted: 0 };
+    let add = AlteredAdd { state, book, queue: Vec::new(), path: path_bytes(&[NODE]) };
+    check::batch(archive, &add, &placed(&[NODE; MAX_STEPS]).repeat(1_000), tally)
+}
+
+/// A day of 6,000 paths of ten steps over 2,000 nodes with seven children each, in batches of so many paths:
+/// what these take and leave is what single adds through the archive take and leave. The last book is too small
+/// for the day; there both go on behind a path that is refused.
+fn long_days(archive: &mut Archive) -> Compared {
+    let mut rng = Rng::new(14);
+    let mut path = || {
+        let mut node = rng.below(2_000);
+        let mut step = || {
+            node = (7 * node + 13 * rng.below(7) + 1) % 2_000;
+            Address::new(node as i32 % 5 - 2, node as u32)
+        };
+        (0..10).map(|_| step()).collect::<Vec<Address>>()
+    };
+    let paths: Vec<Vec<Address>> = (0..6_000).map(|_| path()).collect();
+    let places: Vec<Vec<u8>> = paths.iter().map(|path| placed(path)).collect();
+    for (window, capacity, count) in
+        [(0, MAX_ENTRIES, 6_000), (40, MAX_ENTRIES, 700), (1_024, MAX_ENTRIES, 6_000), (1_024, 9_000, 37)]
+    {
+        let lengths = (ENTRY_BYTES * capacity, PLACE_BYTES * window as usize);
+        let open = |archive: &mut Archive| {
+            archive.open(window, lengths, 0xa5)?.map_err(|refusal| format!("an opening: {:?}", refusal))
+        };
+        open(archive)?;
+        let mut singly = Vec::new();
+        for path in &paths {
+            singly.push(archive.add_path(&path_bytes(path))?.is_ok());
+        }
+        let held = archive.held();
+        must(singly.contains(&false) == (capacity < MAX_ENTRIES), || "the day's room".to_string())?;
+        open(archive)?;
+        let mut taken = Vec::new();
+        while taken.len() < paths.len() {
+            let last = paths.len().min(taken.len() + count);
+            let batch = archive.add_paths(&places[taken.len()..last].concat())?;
+            must(batch.taken > 0 || batch.refusal.is_some(), || format!("{:?} of some places", batch))?;
+            taken.resize(taken.len() + batch.taken as usize, true);
+            taken.extend(batch.refusal.map(|_| false));
+        }
+        must(taken == singly && archive.holds(&held), || {
+            format!("batches of {}, window {}: not what single adds leave", count, window)
+        })?;
+    }
+    Ok(())
+}
+
 /// As many knots as there may be, and one more.
 fn knots(archive: &mut Archive, tally: &mut Tally) -> Compared {
     for paths in [MAX_KNOTS, MAX_KNOTS + 1] {
-        let mut place = [&2_u32.to_le_bytes()[..], &path_bytes(&[NODE, CHILD])].concat();
-        place.resize(PLACE_BYTES, 0x3c);
         let training = Training {
             tables: tables::gamma(2_000),
             priors: one_child((NODE, 2), 3),
@@ -230,7 +313,7 @@ fn knots(archive: &mut Archive, tally: &mut Tally) -> Compared {
             sequences: 2,
             paths: paths as u32,
             rate: 1,
-            places: place.repeat(2 * paths),
+            places: placed(&[NODE, CHILD]).repeat(2 * paths),
             knots: vec![9; paths],
             values: vec![9.0; KNOT_VALUES * paths],
         };

@@ -1,7 +1,7 @@
 //! Many cases through the archive, each held against the recount and, where goko's sources are
-//! there, against goko: random call lists with readings and tidies, adds, tidies and readings on altered
-//! memory, trainings, baselines, tables, priors and look-ups in them, and cases at the limits. Memory around
-//! everything lent is guarded. The seed decides all of it.
+//! there, against goko: random call lists with readings, tidies and batches, adds, batches, tidies and readings
+//! on altered memory, trainings, baselines, tables, priors and look-ups in them, and cases at the limits. Memory
+//! around everything lent is guarded. The seed decides all of it.
 //!
 //!     through [--lists N] [--long] [--seed S] [--threads T]
 
@@ -11,7 +11,7 @@ mod guard;
 mod limits;
 
 use calls::Archive;
-use cases::altered::altered_add;
+use cases::altered::{self, altered_add};
 use cases::calls::{Places, PriorBytes, Tables};
 use cases::lists::{call_list, Shape};
 use cases::rng::Rng;
@@ -131,11 +131,11 @@ fn part(
     Ok((tally, archive.calls))
 }
 
-/// A call list, an add and a tidy on altered memory, tables, and priors with look-ups; now and then a
-/// training, a baseline or a call list with tidies.
+/// A call list, an add, a tidy and a batch on altered memory, tables, and priors with look-ups; now and then a
+/// training, a baseline or a call list with tidies or batches.
 fn one_of_each(archive: &mut Archive, rng: &mut Rng, tally: &mut Tally) -> Compared {
     check::list(archive, &call_list(rng, &Shape::small()), tally)?;
-    altered(archive, rng, tally)?;
+    on_altered(archive, rng, tally)?;
     if rng.chance(25) {
         let floor = paths::floor(rng, 33);
         check::training(archive, &baselines::training(rng, (4, 12), floor), tally)?;
@@ -151,11 +151,15 @@ fn one_of_each(archive: &mut Archive, rng: &mut Rng, tally: &mut Tally) -> Compa
     if rng.chance(30) {
         check::list(archive, &call_list(rng, &Shape::tidied()), tally)?;
     }
+    if rng.chance(30) {
+        let tidies = rng.pick(&[0, 30]);
+        check::list(archive, &call_list(rng, &Shape::batched(tidies)), tally)?;
+    }
     Ok(())
 }
 
 /// Altered memory with priors over the addresses that its book begins with.
-fn altered(archive: &mut Archive, rng: &mut Rng, tally: &mut Tally) -> Compared {
+fn on_altered(archive: &mut Archive, rng: &mut Rng, tally: &mut Tally) -> Compared {
     let add = altered_add(rng, 4);
     let mut known: Vec<Address> = vec![Address::new(0, 1)];
     for entry in add.book.chunks_exact(ENTRY_BYTES).take(6) {
@@ -175,5 +179,6 @@ fn altered(archive: &mut Archive, rng: &mut Rng, tally: &mut Tally) -> Compared 
     let count = rng.between(0, 8);
     let output =
         Places { addresses: rng.bytes(8 * count + 3), figures: (0..count).map(|_| rng.figure()).collect() };
-    check::altered(archive, &add, (&tables, &lent, &output), tally)
+    check::altered(archive, &add, (&tables, &lent, &output), tally)?;
+    check::batch(archive, &add, &altered::batch(rng, &add), tally)
 }

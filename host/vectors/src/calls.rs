@@ -1,12 +1,13 @@
-//! calls.bin, large.bin, readings.bin and tidies.bin: call lists. Each call is followed by what it
-//! gives; an opening, an add and a tidy by the state and sums of book and queue as well. A list ends
-//! with the whole book and queue.
+//! calls.bin, large.bin, readings.bin, tidies.bin and batches.bin: call lists. Each call is followed by
+//! what it gives; an opening, an add and a tidy by the state and sums of book and queue as well. A list
+//! ends with the whole book and queue.
 
-use crate::limits::{within, Sizes, OUTPUT_BYTES, OUTPUT_FIGURES, PATH_BYTES, TABLE_ENTRIES};
+use crate::limits::{within, Sizes, BATCH_BYTES, OUTPUT_BYTES, OUTPUT_FIGURES, PATH_BYTES, TABLE_ENTRIES};
 use crate::words::{checksum, Case, Reader};
 use cases::calls::{Call, CallList, Places, Tables};
 use cases::play::{Answer, Bytes, History, Player, Side};
 use recount::limits::ENTRY_BYTES;
+use recount::Refusal;
 
 const OPEN: u32 = 1;
 const ADD: u32 = 2;
@@ -18,6 +19,7 @@ const POSTERIOR_KL_DIVERGENCE: u32 = 7;
 const ALL_NODE_KL: u32 = 8;
 const KL_DIV_STATS: u32 = 9;
 const TIDY: u32 = 10;
+const ADD_PATHS: u32 = 11;
 
 pub fn record(lists: Vec<CallList>) -> Vec<Case> {
     lists.iter().map(record_list).collect()
@@ -45,6 +47,10 @@ fn write_call(case: &mut Case, call: &Call) {
         Call::Add { path } => {
             case.word(ADD);
             case.bytes(path);
+        }
+        Call::AddPaths { places } => {
+            case.word(ADD_PATHS);
+            case.places(places);
         }
         Call::Tidy => case.word(TIDY),
         Call::LendTables(tables) => {
@@ -86,11 +92,10 @@ fn write_places(case: &mut Case, places: &Places) {
 fn write_answer(case: &mut Case, answer: &Answer, side: &impl Side) {
     match answer {
         Answer::Lent => {}
-        Answer::Changed(changed) => {
-            let state = side.state();
-            case.word(changed.err().map_or(0, |refusal| refusal.number));
-            case.0.extend([state.window, state.used, state.accepted]);
-            case.0.extend([checksum(&side.book()), checksum(&side.queue())]);
+        Answer::Changed(changed) => write_change(case, changed.err(), side),
+        Answer::Batch(batch) => {
+            case.word(batch.taken);
+            write_change(case, batch.refusal, side);
         }
         Answer::Vector(answer, output) => {
             let given = answer.ok().flatten();
@@ -125,6 +130,14 @@ fn write_answer(case: &mut Case, answer: &Answer, side: &impl Side) {
             case.word(number(|stats| stats.skipped));
         }
     }
+}
+
+/// The number that refuses a call, then the state and the sums of book and queue.
+fn write_change(case: &mut Case, refusal: Option<Refusal>, side: &impl Side) {
+    let state = side.state();
+    case.word(refusal.map_or(0, |refusal| refusal.number));
+    case.0.extend([state.window, state.used, state.accepted]);
+    case.0.extend([checksum(&side.book()), checksum(&side.queue())]);
 }
 
 /// The book as its length and its used entries, the queue as places.
@@ -186,6 +199,11 @@ fn read_call(reader: &mut Reader, sizes: &Sizes) -> Result<Call, String> {
         ALL_NODE_KL => Call::AllNodeKl { output: read_places(reader)? },
         KL_DIV_STATS => Call::KlDivStats,
         TIDY => Call::Tidy,
+        ADD_PATHS => {
+            let places = reader.places()?;
+            within("places", places.len(), BATCH_BYTES)?;
+            Call::AddPaths { places }
+        }
         kind => return Err(format!("kind {} is not known", kind)),
     })
 }

@@ -7,7 +7,7 @@ pub struct Sizes {
     pub queue_bytes: usize,
 }
 
-/// In calls.bin, readings.bin and tidies.bin.
+/// In calls.bin, readings.bin, tidies.bin and batches.bin.
 pub const SMALL: Sizes = Sizes { book_bytes: 64 * 24, queue_bytes: 9 * 516 };
 /// In large.bin.
 pub const LARGE: Sizes = Sizes { book_bytes: 16_385 * 24, queue_bytes: 1_024 * 516 };
@@ -24,6 +24,8 @@ pub const CHILD_BYTES: usize = 65 * 16;
 pub const OUTPUT_BYTES: usize = 8 * 8;
 /// Output figures.
 pub const OUTPUT_FIGURES: usize = 8;
+/// Places' bytes of an add of several paths.
+pub const BATCH_BYTES: usize = 10 * 516;
 /// Places' bytes of a training.
 pub const TRAINING_BYTES: usize = 16 * 516;
 /// Words of a case.

@@ -26,7 +26,7 @@ struct Recorded {
     replay: fn(&mut Reader) -> Result<(), String>,
 }
 
-const FILES: [Recorded; 7] = [
+const FILES: [Recorded; 8] = [
     Recorded {
         name: "priors.bin",
         most: 32_768,
@@ -67,6 +67,13 @@ const FILES: [Recorded; 7] = [
         most: 65_536,
         magic: *b"TPY1",
         cases: || calls::record(sample::tidy_lists()),
+        replay: |reader| calls::replay(reader, &limits::SMALL),
+    },
+    Recorded {
+        name: "batches.bin",
+        most: 65_536,
+        magic: *b"TPB1",
+        cases: || calls::record(sample::batch_lists()),
         replay: |reader| calls::replay(reader, &limits::SMALL),
     },
     Recorded {

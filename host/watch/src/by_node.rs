@@ -67,7 +67,8 @@ impl ByNode {
                     sums[place][1] += divergence * divergence;
                 }
                 Ok(())
-            })?;
+            })
+            .map_err(|(_, refusal)| refusal)?;
         }
         Ok(ByNode { lengths, sequences: f64::from(trained.sequences), nodes, ways: Ways::of(day) })
     }

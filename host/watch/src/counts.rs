@@ -52,10 +52,15 @@ impl<'a> Counts<'a> {
         self.held.front().filter(|_| full).map_or(&[], |index| self.paths.steps(*index))
     }
 
+    /// Whether no node's prior and visits can pass `last_index` with so many more steps.
+    pub fn far_from_end(&self, steps: usize, last_index: u64) -> bool {
+        self.greatest_prior + self.visits + steps as u64 <= last_index
+    }
+
     /// The first node, ascending, whose prior and visits would pass `last_index` with this path.
     pub fn past_end(&self, index: usize, last_index: u64) -> Option<Address> {
         let steps = self.paths.steps(index);
-        if self.greatest_prior + self.visits + steps.len() as u64 <= last_index {
+        if self.far_from_end(steps.len(), last_index) {
             return None;
         }
         let leaving = self.leaving();

@@ -32,7 +32,8 @@ pub fn against_others(
         at_knots(sequence, book, trained.rate, |_, tracker| {
             readings.push(tracker.kl_div_stats(lent.tables(trained.greatest_index), lent.priors())?);
             Ok(())
-        })?;
+        })
+        .map_err(|(_, refusal)| refusal)?;
         all.push(readings);
     }
     let most: Vec<f64> = (0..all.len()).filter_map(|own| furthest(&all, own)).collect();

@@ -8,7 +8,6 @@ use crate::mistakes::Problem;
 use crate::others::{against_others, Others};
 use crate::progress::during;
 use crate::refused::told;
-use crate::work::add;
 use teakpool::{place_bytes, Baseline, Refusal, Sequences, Tracker, KNOT_VALUES};
 
 /// Knots that a training has where no rate is given, if the last path can be one of them.
@@ -77,21 +76,27 @@ pub fn train(day: &Day, lent: &mut Lent, book: &mut [u8]) -> Result<Option<Train
     }
 }
 
-/// Adds the paths of a sequence one by one, and calls `at` at each knot with its number.
+/// Adds the paths of a sequence, those up to a knot in one call, and calls `at` at each knot with its
+/// number. A refusal comes with the index of its path.
 pub fn at_knots(
     sequence: &Paths,
     book: &mut [u8],
     rate: u32,
     mut at: impl FnMut(usize, &Tracker) -> Result<(), Refusal>,
-) -> Result<(), Refusal> {
-    let mut tracker = Tracker::open(0, book, &mut [])?;
-    sequence.iter().enumerate().try_for_each(|(index, steps)| {
-        add(&mut tracker, steps)?;
-        match index % rate as usize {
-            0 => at(index / rate as usize, &tracker),
-            _ => Ok(()),
+) -> Result<(), (usize, Refusal)> {
+    let mut tracker = Tracker::open(0, book, &mut []).map_err(|refusal| (0, refusal))?;
+    let (rate, mut from) = (rate as usize, 0);
+    while from < sequence.len() {
+        let knot = from.next_multiple_of(rate);
+        let to = sequence.len().min(knot + 1);
+        let places: Vec<u8> = (from..to).flat_map(|index| place_bytes(sequence.steps(index))).collect();
+        tracker.add_paths(&places).map_err(|stopped| (from + stopped.taken as usize, stopped.refusal))?;
+        if knot < to {
+            at(knot / rate, &tracker).map_err(|refusal| (knot, refusal))?;
         }
-    })
+        from = to;
+    }
+    Ok(())
 }
 
 /// The greatest index that the tables are read at in a sequence.
@@ -110,24 +115,15 @@ fn rate_for(paths: usize) -> usize {
         .unwrap_or_else(|| paths.div_ceil(MAX_KNOTS))
 }
 
-/// A training tells no path, so its steps are taken again one by one, up to the one that is
-/// refused.
+/// A training tells no path, so its work is done again, up to the path that is refused.
 fn where_stopped(day: &Day, lent: &Lent, book: &mut [u8], rate: u32, stopped: Refusal) -> Problem {
     let told_at = |line| told(day, lent.last_index(), line);
-    let first = day.sequences[0].line(0);
+    let read = |tracker: &Tracker| tracker.kl_div_stats(lent.tables(lent.last_index()), lent.priors());
     let again = day.sequences.iter().try_for_each(|sequence| {
-        let mut tracker = Tracker::open(0, book, &mut []).map_err(told_at(first))?;
-        sequence.iter().enumerate().try_for_each(|(index, steps)| {
-            let line = sequence.line(index);
-            add(&mut tracker, steps).map_err(told_at(line))?;
-            if index % rate as usize == 0 {
-                let tables = lent.tables(lent.last_index());
-                tracker.kl_div_stats(tables, lent.priors()).map_err(told_at(line))?;
-            }
-            Ok(())
-        })
+        at_knots(sequence, book, rate, |_, tracker| read(tracker).map(|_| ()))
+            .map_err(|(index, refusal)| told_at(sequence.line(index))(refusal))
     });
-    again.err().unwrap_or_else(|| told_at(first)(stopped))
+    again.err().unwrap_or_else(|| told_at(day.sequences[0].line(0))(stopped))
 }
 
 #[cfg(test)]

@@ -1,5 +1,6 @@
-//! Runs a day through the archive: trains the baseline, adds the paths one by one, reads the
-//! statistics after each and holds them against the baseline, and notes where they drift.
+//! Runs a day through the archive: trains the baseline, adds the paths, reads the statistics after
+//! each and holds them against the baseline, and notes where they drift. On a long day on which all
+//! paths count not every path is read, and those up to one that is are added together.
 
 use crate::by_node::ByNode;
 use crate::capacity::least;
@@ -17,7 +18,7 @@ use crate::training::{train, Trained};
 use crate::usual::{UsualAt, Why};
 use crate::watched::{Judged, LeftOut, Place, Reading, Tidied, Watched};
 use std::collections::BTreeMap;
-use teakpool::{Address, Refusal, Tracker, ENTRY_BYTES, PLACE_BYTES};
+use teakpool::{place_bytes, Address, Refusal, Stopped, Tracker, ENTRY_BYTES, PLACE_BYTES};
 
 /// Nodes that a report shows.
 pub const NODES: usize = 20;
@@ -27,11 +28,6 @@ const RATE_WINDOW: usize = 8;
 /// paths the readings lie the further apart the longer the day is, so that its time grows with the
 /// paths and not with their square.
 pub const EVERY: usize = 8_192;
-
-/// Adds a path.
-pub fn add(tracker: &mut Tracker, steps: &[Address]) -> Result<(), Refusal> {
-    tracker.add_path(steps)
-}
 
 /// Runs the day; a refusal is told with the line to look at.
 pub fn watch(day: &Day) -> Result<Watched, Problem> {
@@ -54,6 +50,7 @@ pub fn watch(day: &Day) -> Result<Watched, Problem> {
         found: BTreeMap::new(),
         rates: Rates::over(rate_window(day)),
         added: 0,
+        ahead: 0,
         unread: None,
         tidied: None,
     };
@@ -111,8 +108,10 @@ struct Run<'a> {
     stretches: Stretches,
     found: BTreeMap<known::NeverSeen, known::Found>,
     rates: Rates,
-    /// Paths that are added.
+    /// Paths that are added and counted.
     added: usize,
+    /// Paths from the next one on that are added and not yet counted.
+    ahead: usize,
     /// The last path that is added, if it is not read, and how many there are since a reading.
     unread: Option<usize>,
     /// How often tidies have dropped entries, and the index of the path before the first of them.
@@ -122,18 +121,55 @@ struct Run<'a> {
 impl Run<'_> {
     /// Takes a path.
     fn path(&mut self, index: usize) -> Result<Place, Refusal> {
-        if let Some(why) = self.left_out(index)? {
+        if self.ahead == 0 {
+            self.ahead = self.add_ahead(index);
+        }
+        if self.ahead > 0 {
+            self.ahead -= 1;
+        } else if let Some(why) = self.left_out(index)? {
             self.stretches.unjudged(index);
             return Ok(Place::LeftOut(why));
         }
         self.counts.add(index);
         self.added += 1;
         self.rates.add(self.known.odd(self.day.paths.steps(index)));
-        if self.day.window == 0 && !self.added.is_multiple_of(1 + self.added / EVERY) {
+        if !self.is_read(self.added) {
             self.unread = Some(index);
             return Ok(Place::Unread);
         }
         self.read(index)
+    }
+
+    /// Whether it is read after the path that is added as this one, from 1.
+    fn is_read(&self, number: usize) -> bool {
+        self.day.window > 0 || number.is_multiple_of(1 + number / EVERY)
+    }
+
+    /// Adds the paths from this one up to the next that is read in one call, where this one is not. It
+    /// ends before a path that is to be left out, which is then taken by itself. Gives how many it took.
+    fn add_ahead(&mut self, index: usize) -> usize {
+        if self.is_read(self.added + 1) {
+            return 0;
+        }
+        let (mut places, mut steps_ahead) = (Vec::new(), 0);
+        for (number, index) in (self.added + 1..).zip(index..self.day.paths.len()) {
+            let steps = self.day.paths.steps(index);
+            steps_ahead += steps.len();
+            let far = self.counts.far_from_end(steps_ahead, self.lent.last_index());
+            if !far || !self.known.never_seen(steps).is_empty() {
+                break;
+            }
+            places.extend(place_bytes(steps));
+            if self.is_read(number) {
+                break;
+            }
+        }
+        if places.is_empty() {
+            return 0;
+        }
+        match self.tracker.add_paths(&places) {
+            Ok(taken) | Err(Stopped { taken, .. }) => taken as usize,
+        }
     }
 
     /// Adds the path, unless it is to be left out.
@@ -157,7 +193,7 @@ impl Run<'_> {
     /// Adds the path; a full book is tidied, and where that drops entries the path is added then.
     fn add(&mut self, index: usize) -> Result<(), Refusal> {
         let steps = self.day.paths.steps(index);
-        let answer = add(&mut self.tracker, steps);
+        let answer = self.tracker.add_path(steps);
         if answer != Err(Refusal::BookFull) {
             return answer;
         }
@@ -167,7 +203,7 @@ impl Run<'_> {
             return answer;
         }
         self.tidied.get_or_insert((0, index - 1)).0 += 1;
-        add(&mut self.tracker, steps)
+        self.tracker.add_path(steps)
     }
 
     /// Reads the statistics after a path and judges them.
@@ -250,7 +286,7 @@ impl Run<'_> {
 
 #[cfg(test)]
 mod tests {
-    use super::{add, watch, EVERY};
+    use super::{watch, EVERY};
     use crate::day::{Day, MAX_ENTRIES};
     use crate::lent::Lent;
     use crate::mistakes::Problem;
@@ -333,6 +369,8 @@ mod tests {
         let training = format!("sequence\n{}sequence\n{}day\npath 0/0", few, many);
         let text = "up to this path there are over 16384 nodes and transitions, more than a book holds";
         assert_eq!(problem(&training), (263, text.to_string()));
+        // With this rate it lies between two knots.
+        assert_eq!(problem(&format!("rate 7\n{}", training)), (264, text.to_string()));
     }
 
     #[test]
@@ -493,13 +531,60 @@ mod tests {
             let (mut book, mut queue) = (vec![0; ENTRY_BYTES * MAX_ENTRIES], vec![0; PLACE_BYTES * 40]);
             let mut tracker = Tracker::open(window, &mut book, &mut queue).expect("the memory is enough");
             for (index, steps) in day.paths.iter().enumerate() {
-                add(&mut tracker, steps).expect("the path fits");
+                tracker.add_path(steps).expect("the path fits");
                 let stats = tracker.kl_div_stats(long.tables(100_000), long.priors());
                 let Place::Read(Reading { stats: read, .. }) = &watched.places[index] else {
                     panic!("path {} is not read", index);
                 };
                 assert_eq!(stats, Ok(*read));
             }
+        }
+    }
+
+    #[test]
+    fn paths_added_together_are_read_as_paths_added_one_by_one() {
+        // Among those that are not read some that the prior does not know, from the 130th on some that the
+        // book has no room for, and in the end more than the tables have.
+        let last_index = 6 + EVERY + 900;
+        let many = many_nodes(140);
+        let mixed = many.lines().flat_map(|path| {
+            let unknown = "path 1/7 0/8";
+            [&["path 1/7 0/7"; 5][..], &[unknown, path, "path 1/7", "path 1/7 0/9", path]].concat()
+        });
+        let paths: Vec<&str> = std::iter::repeat_n("path 1/7 0/9", EVERY).chain(mixed).collect();
+        let head = format!("tables squares {}\nprior 1/7 1 0/7 2 0/9 3\nday\n", last_index);
+        let day = day(&(head + &paths.join("\n")));
+        let watched = watch(&day).expect("the day can be run");
+        let lent = Lent::of(&day);
+        let mut book = vec![0; ENTRY_BYTES * MAX_ENTRIES];
+        let mut tracker = Tracker::open(0, &mut book, &mut []).expect("the memory is enough");
+        let (mut visits, mut expected, mut unread) = (0, Vec::new(), 0);
+        for (index, steps) in day.paths.iter().enumerate() {
+            let watched_node = usize::from(steps[0] == Address::new(1, 7));
+            if watched_node == 1 && steps.get(1) == Some(&Address::new(0, 8)) {
+                expected.push((index, LeftOut::NeverSeen));
+            } else if 6 + visits + watched_node > last_index {
+                expected.push((index, LeftOut::PastTables(steps[0])));
+            } else if tracker.add_path(steps).is_err() {
+                expected.push((index, LeftOut::BookFull));
+            } else {
+                visits += watched_node;
+                match &watched.places[index] {
+                    Place::Read(Reading { stats, .. }) => assert_eq!(
+                        tracker.kl_div_stats(lent.tables(last_index as u64), lent.priors()),
+                        Ok(*stats),
+                        "path {}",
+                        index
+                    ),
+                    _ => unread += 1,
+                }
+            }
+        }
+        assert_eq!(left_out(&watched), expected);
+        assert_eq!((watched.tally().unread, unread > 500), (unread, true));
+        let all = [LeftOut::NeverSeen, LeftOut::BookFull, LeftOut::PastTables(Address::new(1, 7))];
+        for why in all {
+            assert!(expected.iter().any(|(_, other)| *other == why), "{:?}", why);
         }
     }
 

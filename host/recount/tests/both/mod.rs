@@ -52,7 +52,7 @@ impl Both {
         bytes.evidence().unwrap()
     }
 
-    fn must_agree(&self) {
+    pub fn must_agree(&self) {
         assert_eq!(self.history.state(), self.state);
         assert!(self.history.book() == self.book && self.history.queue() == self.queue);
         assert_eq!(self.history.counted(), self.evidence());

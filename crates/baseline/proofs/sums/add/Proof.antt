@@ -36,7 +36,7 @@ use denote.Triple.Spec.{Meets, tripleOf}
 use denote.Triple.Table.{entered, cited}
 use denote.Triple.Walked.{says, needs, Stays, stay-ref, stay-none, walkOf, AllGo, goes-none, goes-ref, Walks, ends-at, walked, walk-meets}
 use denote.Exit.{yes}
-use Rattle.book.specs.Limits.{maxEntries}
+use Rattle.entries.specs.Limits.{maxEntries}
 use Rattle.baseline.specs.Sums.{added as addedOf}
 use Rattle.baseline.specs.declared.sums.KnotSums.{KnotSums}
 use Rattle.divergence.specs.declared.statistics.KLDivergenceStats.{KLDivergenceStats}

@@ -2,17 +2,19 @@
 -- Assumes nothing.
 use mathlib.Core.Path.{_≡_, refl, sym, ap, _∙_}
 use mathlib.Core.Bool.{true, false}
-use Prim.Native.Nat.{ℕ, _+_, _≤_}
+use Prim.Native.Nat.{ℕ, _+_, _^_, _≤_}
 use native.Mathlib.Omega.{arith}
 use mathlib.Core.List.{List}
 use lib.Dec.{leb}
 use lib.ListN.{length}
 use borrow.Author.Tests.{not-true, not-false}
-use Rattle.book.specs.Entries.{rows, Rewritten}
+use Rattle.entries.specs.Entries.{rows, Rewritten}
 use Rattle.book.specs.Path.{pathOf, wholePath, listedKeys, countedKeys}
 use Rattle.book.specs.Form.{capacity}
+use Rattle.entries.specs.Limits.{maxCount}
+use Rattle.entries.proofs.BookLaws.{counts-rise}
 use Rattle.book.specs.Changes.{touchAll, bumpAll}
-use Rattle.baseline.specs.Training.{pathIn}
+use Rattle.book.specs.Batches.{pathIn}
 use Rattle.baseline.specs.Courses.{pathNumber}
 use Rattle.baseline.proofs.HoldLaws.{held-ascends, held-endings, held-counts, not-whole, no-room, taken, room-fits, held-next}
 use borrow.Author.Needs.{needs}
@@ -89,7 +91,7 @@ add-steps-requires c κs =
     let room-is : c .before .before .has-room .result ≡ leb (length (touchAll (listedKeys (pathOf (pathIn seq (first + i)))) (rows book used))) (capacity book) =
     c .before .before .has-room .ensures ∙ ap (λ (l : List ℕ). leb (length (touchAll (listedKeys (pathOf l)) (rows book used))) (capacity book)) (p .path-in .ensures) in
     let fits = room-fits seq first i few book used held whole (c .before .before .has-room .result) room-is (not-false _ (c .before .if2 .left)) in
-    (sym (c .before .before .before .before .before .whole-path .ensures) ∙ not-false _ (c .before .before .before .before .if1 .left), (held .used-fit, (held-ascends seq first i few book used held, (held-endings seq first i few book used held, (held-counts seq first i few book used held, rw (p .path-in .ensures) fits)))))
+    (sym (c .before .before .before .before .before .whole-path .ensures) ∙ not-false _ (c .before .before .before .before .if1 .left), (held .used-fit, (held-ascends seq first i few book used held, (held-endings seq first i few book used held, (counts-rise maxCount (2 ^ 31) (rows book used) (omega arith) (held-counts seq first i few book used held), rw (p .path-in .ensures) fits)))))
 
 same-length-2 : tie.Need-same-length-2
 same-length-2 c = search needs

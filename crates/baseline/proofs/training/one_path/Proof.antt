@@ -8,7 +8,7 @@ use Rattle.priors.specs.declared.refusals.Checked.{Checked}
 use Rattle.priors.specs.Priors.{priorsRefusal}
 use Rattle.priors.specs.Layer.{floorOf}
 use Rattle.priors.proofs.LayerLaws.{layer-back}
-use Rattle.book.specs.Entries.{rows}
+use Rattle.entries.specs.Entries.{rows}
 use Rattle.baseline.specs.declared.training.Entries.{Entries}
 use Rattle.baseline.specs.declared.training.Entries.the-variants.{Used, Stopped}
 use Rattle.baseline.specs.Training.{lentOf}

@@ -5,7 +5,7 @@ use Prim.Native.Nat.{_+_, _%_}
 use native.Mathlib.Omega.{arith}
 use borrow.Author.Tests.{eq-eqb, ne-eqb}
 use Rattle.priors.specs.Refusals.{numberOf, namedNode}
-use Rattle.book.specs.Entries.{rows}
+use Rattle.entries.specs.Entries.{rows}
 use Rattle.divergence.specs.Answers.{statsAnswer}
 use Rattle.divergence.specs.Readings.{Statistics}
 use Rattle.baseline.specs.Training.{stopped, reached, recorded}

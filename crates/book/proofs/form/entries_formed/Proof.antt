@@ -6,8 +6,8 @@ use borrow.Author.Tests.{not-true, not-false}
 use native.Mathlib.Omega.{arith}
 use lib.ListN.{drop}
 use Rattle.priors.specs.Rows.{row}
-use Rattle.book.specs.Keys.{kindOf, keyValue}
-use Rattle.book.specs.Entries.{rowAt, rows}
+use Rattle.entries.specs.Keys.{kindOf, keyValue}
+use Rattle.entries.specs.Entries.{rowAt, rows}
 use Rattle.book.specs.Form.{formed, formedAfter}
 use Rattle.book.proofs.FormLaws.{kind-is, row-read, none, start-plain, start-ending, start-on, turn-plain, turn-follows, turn-on, done}
 use borrow.Author.Needs.{needs}

@@ -6,7 +6,7 @@ use native.Mathlib.Omega.{arith}
 use lib.Dec.{ltb, eqb}
 use borrow.Author.Tests.{lt-ltb, le-ltb, eq-eqb, ne-eqb}
 use Rattle.priors.specs.Rows.{row}
-use Rattle.book.specs.Keys.{keyValue}
+use Rattle.entries.specs.Keys.{keyValue}
 use Rattle.book.specs.Form.{follows}
 use Rattle.book.proofs.FormLaws.{and-true, follows-is}
 use Rattle.book.proofs.form.follows.Statement.{statement}

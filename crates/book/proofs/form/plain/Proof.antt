@@ -8,8 +8,8 @@ use lib.Dec.{leb, eqb}
 use borrow.Author.Tests.{le-leb, lt-leb, eq-eqb, ne-eqb}
 use Rattle.priors.specs.Address.{rank, lift}
 use Rattle.priors.specs.Rows.{row}
-use Rattle.book.specs.Limits.{maxCount}
-use Rattle.book.specs.Keys.{keyValue, noChild}
+use Rattle.entries.specs.Limits.{maxCount}
+use Rattle.entries.specs.Keys.{keyValue, noChild}
 use Rattle.book.specs.Form.{plain}
 use Rattle.book.proofs.FormLaws.{plain-is}
 use Rattle.book.proofs.form.plain.Statement.{statement}

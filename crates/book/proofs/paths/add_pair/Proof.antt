@@ -9,11 +9,11 @@ use native.Mathlib.Omega.{arith}
 use Rattle.priors.specs.Rows.{Row, touch}
 use Rattle.priors.proofs.RowLaws.{grows}
 use Rattle.priors.proofs.ByPlace.{Spot, look-spot}
-use Rattle.book.specs.Keys.{endKey, childKey}
-use Rattle.book.specs.Entries.{rows, countAt, Rewritten}
+use Rattle.entries.specs.Keys.{endKey, childKey}
+use Rattle.entries.specs.Entries.{rows, countAt, Rewritten}
 use Rattle.book.proofs.ListingForm.{end-below-child}
 use Rattle.book.proofs.EndingLaws.{ending-touched}
-use Rattle.book.proofs.BookLaws.{spot-at, spot-missing, key-in-range, at-lt, count-at, changed-at, missing-le, length-in, changed-in}
+use Rattle.entries.proofs.BookLaws.{spot-at, spot-missing, key-in-range, at-lt, count-at, changed-at, missing-le, length-in, changed-in}
 use Rattle.book.proofs.PassLaws.{second-after, second-fits, second-room, second-place, both-done}
 use borrow.Author.Needs.{needs}
 use Rattle.book.proofs.paths.add_pair.Statement.{statement}
@@ -36,10 +36,10 @@ is-at : (c : tie.After-i) → Spot (k (start-at c)) (rs (start-at c)) (c .i .giv
 is-at c = spot-at (k (start-at c)) (c .i .given .0 .0) (rs (start-at c)) cc
 
 -- its count can be raised
-count-fits : (i : tie.After-i) → countAt (start-at i .args .book .now) (i .i .given .0 .0) ≤ 2 ^ 31
+count-fits : (i : tie.After-i) → countAt (start-at i .args .book .now) (i .i .given .0 .0) ≤ 2 ^ 32 - 2
 count-fits i =
     let st = start-at i in
-    count-at (st .args .book .now) (st .args .used) (k st) (i .i .given .0 .0) (st .pre .0) (is-at i) (2 ^ 31) (st .pre .1 .1 .1 .0)
+    count-at (st .args .book .now) (st .args .used) (k st) (i .i .given .0 .0) (st .pre .0) (is-at i) (2 ^ 32 - 2) (st .pre .1 .1 .1 .0)
 
 -- where it is missing
 abbrev start-missing : tie.After-i2 → tie.Start

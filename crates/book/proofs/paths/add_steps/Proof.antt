@@ -5,11 +5,10 @@ use Prim.Native.Nat.{ℕ, _+_, _-_, _*_, _/_, _^_, _≤_}
 use native.Mathlib.Omega.{arith}
 use lib.ListN.{length}
 use Rattle.priors.specs.Address.{rankAt}
-use Rattle.book.specs.Limits.{maxCount}
-use Rattle.book.specs.Entries.{rows}
+use Rattle.entries.specs.Entries.{rows}
 use Rattle.book.specs.Path.{pathOf}
 use Rattle.book.proofs.StepLaws.{step-at, step-more, step-last, path-low, path-high}
-use Rattle.book.proofs.BookLaws.{counts-rise}
+use Rattle.entries.proofs.BookLaws.{counts-rise}
 use Rattle.book.proofs.PassLaws.{Passing, pass-room, passing-start, pair-room, passing-on, end-room, passing-done}
 use Rattle.book.proofs.paths.add_steps.Statement.{statement}
 use Rattle.book.proofs.paths.add_steps.Tie as tie
@@ -59,7 +58,7 @@ add-pair-requires c κs =
         (
           inv .endings-listed,
           (
-            counts-rise (maxCount + i) (2 ^ 31) rs (omega arith) (inv .counts-fit),
+            counts-rise (2 ^ 31 + i) (2 ^ 32 - 2) rs (omega arith) (inv .counts-fit),
             pair-room (st .args .book .now) (st .args .used) (pathOf (st .args .path .now)) (pass-room (st .args .path .now) (st .args .book .now) (st .args .used) (st .pre .1 .1 .0) (st .pre .1 .1 .1 .1 .1)) (l .loop .book) (l .loop .listed) i inv (step-more (st .args .path .now) i (omega arith)) (c .before .before .rank-at .result) (c .before .rank-at2 .result) a b,
           ),
         ),
@@ -107,7 +106,7 @@ note-requires c κs =
       (
         inv .ascends,
         (
-          counts-rise (maxCount + i) (2 ^ 32 - 2) rs (omega arith) (inv .counts-fit),
+          counts-rise (2 ^ 31 + i) (2 ^ 32 - 2) rs (omega arith) (inv .counts-fit),
           rw (c .ending .ensures) (end-room (st .args .book .now) (st .args .used) (pathOf (st .args .path .now)) (pass-room (st .args .path .now) (st .args .book .now) (st .args .used) (st .pre .1 .1 .0) (st .pre .1 .1 .1 .1 .1)) (l .loop .book) (l .loop .listed) i inv (step-last (st .args .path .now) i (omega arith)) (c .before .before .rank-at3 .result) a),
         ),
       ),

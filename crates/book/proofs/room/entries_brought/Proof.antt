@@ -2,9 +2,9 @@
 -- Assumes nothing.
 use mathlib.Core.Path.{_≡_}
 use lib.ListN.{getD}
-use Rattle.book.specs.declared.entries.Found.the-variants.{At, Missing}
+use Rattle.entries.specs.declared.entries.Found.the-variants.{At, Missing}
 use Rattle.book.specs.Path.{pathOf, listedKeys}
-use Rattle.book.specs.Entries.{rows, findIn}
+use Rattle.entries.specs.Entries.{rows, findIn}
 use Rattle.book.proofs.RoomLaws.{found-brings, again-brings, new-brings}
 use borrow.Author.Needs.{needs}
 use Rattle.book.proofs.room.entries_brought.Statement.{statement}

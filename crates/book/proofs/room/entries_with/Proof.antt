@@ -5,7 +5,7 @@ use Prim.Native.Nat.{_+_, _-_, _*_, _/_, _≤_}
 use native.Mathlib.Omega.{arith}
 use lib.ListN.{length, take}
 use Rattle.book.specs.Path.{pathOf, listedKeys}
-use Rattle.book.specs.Entries.{rows}
+use Rattle.entries.specs.Entries.{rows}
 use Rattle.book.specs.Changes.{touchAll}
 use Rattle.book.proofs.StepLaws.{path-low}
 use Rattle.book.proofs.RoomLaws.{keys-number, brings-at-most, none-looked-at, one-looked-at, pair-looked-at, all-looked-at}

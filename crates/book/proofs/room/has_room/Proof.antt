@@ -7,10 +7,9 @@ use lib.Dec.{leb}
 use lib.ListN.{length}
 use borrow.Author.Tests.{le-leb}
 use Rattle.book.specs.Path.{pathOf, listedKeys}
-use Rattle.book.specs.Entries.{rows}
-use Rattle.book.specs.Form.{capacity}
+use Rattle.entries.specs.Entries.{rows}
 use Rattle.book.specs.Changes.{touchAll}
-use Rattle.book.proofs.EntryLaws.{length-rows}
+use Rattle.entries.proofs.EntryLaws.{length-rows}
 use Rattle.book.proofs.StepLaws.{path-low}
 use Rattle.book.proofs.RoomLaws.{path-at-most}
 use borrow.Author.Needs.{needs}
@@ -31,7 +30,7 @@ returns c =
     let st = c .before .before .before in
     let rs = rows (st .args .book .now) (st .args .used) in
     let low = path-low (st .args .path .now) (st .pre .0) in
-    sym (le-leb (length (touchAll (listedKeys (pathOf (st .args .path .now))) rs)) (capacity (st .args .book .now)) (omega (arith, path-at-most (st .args .path .now) rs low, length-rows (st .args .book .now) (st .args .used))))
+    sym (le-leb (length (touchAll (listedKeys (pathOf (st .args .path .now))) rs)) (st .args .limit) (omega (arith, path-at-most (st .args .path .now) rs low, length-rows (st .args .book .now) (st .args .used))))
 
 entries-with-requires : tie.Need-entries-with-requires
 entries-with-requires c κs = search needs
@@ -39,7 +38,7 @@ entries-with-requires c κs = search needs
 returns-2 : tie.Need-returns-2
 returns-2 c =
     let st = c .before .before .before .before in
-    ap (λ (k : ℕ). leb k (capacity (st .args .book .now))) (c .entries-with .ensures)
+    ap (λ (k : ℕ). leb k (st .args .limit)) (c .entries-with .ensures)
 
 pub has-room-spec : {M : Type 1} → statement M
 has-room-spec =

@@ -5,7 +5,7 @@ use Prim.Native.Nat.{_-_, _≤_}
 use native.Mathlib.Omega.{arith}
 use lib.Dec.{eqb}
 use lib.ListN.{take}
-use Rattle.book.specs.Keys.{keyValue}
+use Rattle.entries.specs.Keys.{keyValue}
 use Rattle.book.specs.Path.{pathOf, listedKeys}
 use Rattle.book.specs.Recount.{occurrences}
 use Rattle.book.proofs.RoomLaws.{key-numbered, seen-here, not-here, never-seen}

@@ -4,7 +4,7 @@ use mathlib.Core.Path.{_≡_, sym, _∙_}
 use Prim.Native.Nat.{_+_, _*_}
 use native.Mathlib.Omega.{arith}
 use Rattle.book.specs.Path.{pathOf, listedKeys}
-use Rattle.book.specs.Entries.{rows}
+use Rattle.entries.specs.Entries.{rows}
 use Rattle.book.specs.Room.{brings}
 use Rattle.book.proofs.RoomLaws.{brings-at-most, pair-none}
 use borrow.Author.Needs.{needs}

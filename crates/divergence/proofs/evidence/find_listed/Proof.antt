@@ -1,7 +1,7 @@
 -- What the search finds is the ending's place, and what it misses is not listed. Assumes nothing.
 use mathlib.Core.Path.{sym, ap, _∙_}
 use native.Mathlib.Omega.{arith}
-use Rattle.book.specs.Entries.{rows, findIn}
+use Rattle.entries.specs.Entries.{rows, findIn}
 use Rattle.book.proofs.FormLaws.{formed-ascends}
 use Rattle.divergence.proofs.NodeLaws.{found-node}
 use Rattle.divergence.proofs.ListedLaws.{found-missing, listed-end, listed-is, listed-ascend}

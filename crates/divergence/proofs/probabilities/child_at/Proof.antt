@@ -5,9 +5,9 @@ use Rattle.priors.specs.Word.{word}
 use Rattle.priors.specs.Address.{rankAt}
 use Rattle.priors.specs.Rows.{row}
 use Rattle.priors.proofs.Ranks.{word-lt, rankAt-lt}
-use Rattle.book.specs.Entries.{keyAt, rowAt}
-use Rattle.book.specs.Keys.{childOf}
-use Rattle.book.proofs.KeyLaws.{key-child}
+use Rattle.entries.specs.Entries.{keyAt, rowAt}
+use Rattle.entries.specs.Keys.{childOf}
+use Rattle.entries.proofs.KeyLaws.{key-child}
 use borrow.Author.Needs.{needs}
 use Rattle.divergence.proofs.probabilities.child_at.Statement.{statement}
 use Rattle.divergence.proofs.probabilities.child_at.Tie as tie

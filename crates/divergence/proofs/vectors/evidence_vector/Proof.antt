@@ -5,7 +5,7 @@ use native.Mathlib.Omega.{arith}
 use mathlib.Core.List.{[]}
 use mathlib.Core.Option.{none, some}
 use Rattle.priors.specs.Priors.{total}
-use Rattle.book.specs.Entries.{rows, countAt}
+use Rattle.entries.specs.Entries.{rows, countAt}
 use Rattle.divergence.specs.declared.evidence.Listed.{Listed}
 use Rattle.divergence.specs.Nodes.{listedNodes, evidenceOf}
 use Rattle.divergence.specs.Parts.{evidenceAt}

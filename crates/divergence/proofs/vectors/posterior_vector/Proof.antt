@@ -4,7 +4,7 @@ use Prim.Native.Nat.{_+_}
 use native.Mathlib.Omega.{arith}
 use mathlib.Core.Option.{none}
 use Rattle.priors.specs.Priors.{priorOfNode}
-use Rattle.book.specs.Entries.{rows, countAt}
+use Rattle.entries.specs.Entries.{rows, countAt}
 use Rattle.divergence.specs.declared.evidence.Listed.{Listed}
 use Rattle.divergence.specs.Nodes.{listedNodes, evidenceOf}
 use Rattle.divergence.specs.Probability.{posterior}
