@@ -27,7 +27,7 @@ if [ -e "$CALLS.fails" ]; then
 fi
 mkdir -p target/staticlib
 echo built >target/staticlib/libexports.a
-for crate in priors book divergence baseline; do
+for crate in priors entries book divergence baseline; do
     echo "rt: $crate proved (1 s)"
 done
 echo 'rt: target/staticlib/libexports.a has the functions'
@@ -62,8 +62,8 @@ with_rt prebuilt/update >"$work/recorded"
 expect "an update proves" "rt staticlib exports" "$(calls)"
 expect "an update puts the archive here" "built" "$(cat "$prebuilt")"
 expect "an update records the toolchain" "toolchain a toolchain for tests" "$(tail -n 1 "$work/recorded")"
-expect "a line for each crate" "6" "$(grep -c . "$work/said")"
-expect "the last crate's line" "teakpool: 5 of 5: exports proved and built" "$(tail -n 1 "$work/said")"
+expect "a line for each crate" "7" "$(grep -c . "$work/said")"
+expect "the last crate's line" "teakpool: 6 of 6: exports proved and built" "$(tail -n 1 "$work/said")"
 with_rt prebuilt/check >"$work/checked" || expect "a check of what was just put here" "a pass" "$(cat "$work/said")"
 expect "a check proves" "rt staticlib exports" "$(calls)"
 rm -rf target
@@ -108,7 +108,7 @@ hash_changes() { # WHAT
     fi
 }
 made_of=$(bash -c '. prebuilt/common.sh; archive_crates' | cut -d : -f 1 | sort | paste -s -d ' ')
-expect "what the archive is made of" "baseline book divergence exports priors" "$made_of"
+expect "what the archive is made of" "baseline book divergence entries exports priors" "$made_of"
 for crate in $made_of; do
     for folder in src specs; do
         first=$(find "crates/$crate/$folder" -name '*.rt' -o -name '*.antt' | sort | head -n 1)
