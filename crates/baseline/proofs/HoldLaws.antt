@@ -70,10 +70,10 @@ module _ (sequences : List ℕ) (first i : ℕ) (few : i ≤ max_paths) (book : 
   kept =
       let used-is : used ≡ length (listing (paths_of sequences first i)) = sym (length_rows book used) ∙ ap length h.rows_are ∙ length_image 0 (paths_of sequences first i) (paths_of sequences first i) in
       record {
-        sizes = sizes_fit book h.book-fits;
-        listed_le = omega (arith, h.used-fit);
+        sizes = sizes_fit book h.book_sized;
+        listed_le = omega (arith, h.used_fit);
         early = zero-le;
-        paths-le = omega (arith, length_paths sequences first i);
+        paths_le = omega (arith, length_paths sequences first i);
         whole = h.whole;
         ranks = h.ranks;
       }
@@ -133,8 +133,8 @@ module _ (sequences : List ℕ) (first i : ℕ) (few : i ≤ max_paths) (book : 
           (add_taken (recount_of sequences first i (length book)) (path_in sequences (first + i)) taken) in
           let n-is : n ≡ length (listing (paths ++ p ∷ [])) = w.number_is ∙ ap length rows_next ∙ length_image 0 (paths ++ p ∷ []) (paths ++ p ∷ []) in
           record {
-            book_fits_lem = fits_same book after same h.book-fits;
-            used-fit = omega (arith, k.listed_le);
+            book_sized = fits_same book after same h.book_sized;
+            used_fit = omega (arith, k.listed_le);
             rows_are = w.rows_are ∙ rows_next;
             whole = k.whole;
             ranks = k.ranks;
@@ -143,13 +143,13 @@ module _ (sequences : List ℕ) (first i : ℕ) (few : i ≤ max_paths) (book : 
 -- in no entries a book holds no path
 pub held_none : (sequences : List ℕ) (first : ℕ) (book : List ℕ) → book_fits book ≡ true → Holds sequences first 0 book 0
 unfolding paths_of rows rows_of listing enter_all flat_map
-held_none sequences first book h = record { book_fits_lem = h; used-fit = zero-le; rows_are = refl; whole = tt; ranks = tt }
+held_none sequences first book h = record { book_sized = h; used_fit = zero-le; rows_are = refl; whole = tt; ranks = tt }
 
 -- ---- the statistics
 
 module _ (x : Lent) (accepted : Accepted x) (first i : ℕ) (few : i ≤ max_paths) (book : List ℕ) (used : ℕ) (h : Holds x.sequences first i book used) where
   pub few_entries : used ≤ 16384
-  few_entries = let s = sizes_fit book h.book-fits in omega (arith, h.used-fit)
+  few_entries = let s = sizes_fit book h.book_sized in omega (arith, h.used_fit)
 
   -- the recount's are those of the book's entries
   pub stats_are : recount_stats x (recount_of x.sequences first i (length book)) ≡ book_stats x.G x.D x.nodes x.children (layer_of x.floor) (rows book used) i
@@ -157,7 +157,7 @@ module _ (x : Lent) (accepted : Accepted x) (first i : ℕ) (few : i ≤ max_pat
   stats_are =
       let H : List Steps = paths_of x.sequences first i in
       let nodes-are : recount_nodes 0 H H ≡ listed_nodes (rows book used) = sym (ap listed_nodes h.rows_are ∙ listed_nodes_lem 0 H H (window_drop 0 H) h.ranks) in
-      rw (accepted.tables-fit, accepted.priors-fit)
+      rw (accepted.tables_fit, accepted.priors_fit)
       (ap₂ (λ (n : ℕ) (ns : List Node). recorded (stats_reading_of n (walk x.G x.D x.nodes x.children (layer_of x.floor) ns))) (length_paths x.sequences first i) nodes-are)
 
 -- what one more path makes of the values, told from the book that holds it

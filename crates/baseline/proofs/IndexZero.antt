@@ -17,7 +17,7 @@ use Rattle.divergence.specs.Checks.{or_else}
 use Rattle.divergence.specs.Asked.{lent_output}
 use Rattle.divergence.specs.Claims.{recount_seen}
 use Rattle.divergence.proofs.IndexZero.{same_tables, index_zero_unread}
-use Rattle.baseline.specs.Training.{Lent, Input, lent_of, input_of, knot_room, sizes_refusal, train_refusal, Until, and_then, recorded, recount_stats, unless_stopped, records_from, sequence_records, all_records, course, knots_of, trained_reading, book_left, knots_left, values_left, TrainAnswer, train_asked}
+use Rattle.baseline.specs.Training.{Lent, Input, lent_of, input_of, knot_room, sizes_refusal, train_refusal, Until, and_then, recorded, recount_stats, unless_stopped, records_from, sequence_records, all_records, knots_of, trained_reading, book_left, knots_left, values_left, TrainAnswer, train_asked}
 use Rattle.baseline.specs.Claims.{IndexZeroUnread}
 
 module _ (g g' d d' : Float) (G D : List Float) (nodes children : List ℕ) (floor : ℤ) (sequences : List ℕ) (s n rate : ℕ) where

@@ -41,7 +41,7 @@ module _ (x : Input) (book knots : List ℕ) (values : List Float) where
     pub sizes_third : priors_refusal x.lent.nodes x.lent.children (layer_of x.lent.floor) ≡ 0
         → sizes_refusal x.lent.sequences x.s x.n x.lent.rate book (knot_room knots values) ≡ train_refusal x book knots values
     unfolding train_refusal
-    sizes_third priors-fit = rw (tables-fit, priors-fit)
+    sizes_third priors_fit = rw (tables-fit, priors_fit)
 
 -- ---- 13 tests whichever slice holds fewer whole knots
 
@@ -88,8 +88,8 @@ three_passed a b c h =
 
 -- the sizes
 pub record SizesFit (sequences : List ℕ) (s n rate : ℕ) (book : List ℕ) (have : ℕ) : Type 0 where
-  pub book_fits_lem : book_fits book ≡ true
-  pub input_fits_lem : input_fits sequences s n rate ≡ true
+  pub book_sized : book_fits book ≡ true
+  pub input_held : input_fits sequences s n rate ≡ true
   pub room : knot_count n rate ≤ have
 
 pub sizes_passed : (sequences : List ℕ) (s n rate : ℕ) (book : List ℕ) (have : ℕ) → sizes_refusal sequences s n rate book have ≡ 0 → SizesFit sequences s n rate book have
@@ -98,4 +98,4 @@ sizes_passed sequences s n rate book have h =
     let first = rule_passed (book_fits book) _ 8 h in
     let second = rule_passed (input_fits sequences s n rate) _ 15 first.1 in
     let third = rule_passed (leb (knot_count n rate) have) 0 12 second.1 in
-    record { book_fits_lem = first.0; input_fits_lem = second.0; room = leb-true (knot_count n rate) have third.0 }
+    record { book_sized = first.0; input_held = second.0; room = leb-true (knot_count n rate) have third.0 }

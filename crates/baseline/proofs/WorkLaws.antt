@@ -26,7 +26,7 @@ use Rattle.baseline.proofs.InputLaws.{three_passed, sizes_passed, rate_some, few
 
 pub record Passed (x : Input) (book knots : List ℕ) (values : List Float) : Type 0 where
   pub accepted : Accepted x.lent
-  pub book_fits_lem : book_fits book ≡ true
+  pub book_sized : book_fits book ≡ true
   pub size_is : length x.lent.sequences ≡ 516 * (x.s * x.n)
   pub rate_some : 1 ≤ x.lent.rate
   pub few_sequences : x.s ≤ 64
@@ -45,11 +45,11 @@ passed x book knots values h =
     three_passed (tables_refusal x.lent.G x.lent.D) (priors_refusal x.lent.nodes x.lent.children (layer_of x.lent.floor))
     (sizes_refusal x.lent.sequences x.s x.n x.lent.rate book (knot_room knots values)) h in
     let sizes = sizes_passed x.lent.sequences x.s x.n x.lent.rate book (knot_room knots values) numbers.2 in
-    let fits = sizes.input-fits in
+    let fits = sizes.input_held in
     let room = room_both (length knots) (length values) (knots_of x) sizes.room in
     record {
-      accepted = record { tables-fit = numbers.0; priors-fit = numbers.1 };
-      book_fits_lem = sizes.book-fits;
+      accepted = record { tables_fit = numbers.0; priors_fit = numbers.1 };
+      book_sized = sizes.book_sized;
       size_is = size_is x.lent.sequences x.s x.n x.lent.rate fits;
       rate_some = rate_some x.lent.sequences x.s x.n x.lent.rate fits;
       few_sequences = few_sequences x.lent.sequences x.s x.n x.lent.rate fits;

@@ -51,7 +51,7 @@ recount_of sequences first i book_size = record { window = 0; paths = paths_of s
 
 -- the book holds them in its first entries
 pub record Holds (sequences : List ℕ) (first i : ℕ) (book : List ℕ) (used : ℕ) : Type 0 where
-  pub book_fits_lem : book_fits book ≡ true
+  pub book_sized : book_fits book ≡ true
   pub used_fit : entry_size * used ≤ length book
   pub rows_are : rows book used ≡ rows_of 0 (paths_of sequences first i) (paths_of sequences first i)
   pub whole : AllWhole (paths_of sequences first i)

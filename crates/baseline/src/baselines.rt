@@ -12,7 +12,7 @@ pub const MAX_SEQUENCES: u32 = 64;
 
 pub const MAX_KNOTS: usize = 1024;
 
-#[derive(Drop)]
+#[derive(Clone, Copy)]
 pub enum BaselineStats {
     Figures(KLDivergenceBaselineStats),
     Refused(Refusal),

@@ -1,17 +1,17 @@
 // Mean and variance of the five figures at a knot, and the straight line between two knots. Every operation is rounded once.
 ghost use Rattle.std.specs.Prelude.{◌≡◌, ◌≤◌, ◌<◌};
-ghost use Rattle.baseline.specs.Figures.{mean_var, to_mean_var, on_line, pair_on_line, interpolated, weight as «weight-of», no_figures};
+ghost use Rattle.baseline.specs.Figures.{mean_var, to_mean_var, on_line, pair_on_line, interpolated, weight as weight_of, no_figures};
 
 use crate::sums::{KnotSums, SumPair};
 
-#[derive(Drop)]
+#[derive(Clone, Copy)]
 pub struct MeanVar {
     pub mean: f64,
     pub variance: f64,
 }
 
 // goko's record of the same name, with a record for each of its pairs.
-#[derive(Drop)]
+#[derive(Clone, Copy)]
 pub struct KLDivergenceBaselineStats {
     pub max: MeanVar,
     pub min: MeanVar,
@@ -88,7 +88,7 @@ pub fn interpolate(
 // Whole differences are made floats and divided once.
 pub(crate) fn weight(i: u32, left: u32, right: u32) -> f64
     requires { (left ≤ i) × (left < right) }
-    ensures { result ≡ «weight-of» i left right }
+    ensures { result ≡ weight_of i left right }
 {
     (i - left) as f64 / (right - left) as f64
 }

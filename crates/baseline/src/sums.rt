@@ -3,20 +3,20 @@
 ghost use Rattle.std.specs.Prelude.{◌≡◌, ◌+◌, ◌*◌, ◌≤◌, ◌<◌, length};
 ghost use Rattle.entries.specs.Limits.{max_entries};
 ghost use Rattle.baseline.specs.Limits.{knot_values};
-ghost use Rattle.baseline.specs.Sums.{with_value, with_number, added as «added_of», pair_at, sums_at, put_pair, put_sums};
+ghost use Rattle.baseline.specs.Sums.{with_value, with_number, added as added_of, pair_at, sums_at, put_pair, put_sums};
 
 use divergence::statistics::KLDivergenceStats;
 
 // Values of a knot.
 pub const KNOT_VALUES: usize = 10;
 
-#[derive(Drop)]
+#[derive(Clone, Copy)]
 pub struct SumPair {
     pub sum: f64,
     pub squares: f64,
 }
 
-#[derive(Drop)]
+#[derive(Clone, Copy)]
 pub struct KnotSums {
     pub max: SumPair,
     pub min: SumPair,
@@ -49,7 +49,7 @@ fn with_number(p: SumPair, n: u64) -> SumPair
 // One more record. A book has at most 16,384 entries, so no more divergences are counted.
 pub(crate) fn added(sums: KnotSums, stats: KLDivergenceStats) -> KnotSums
     requires { stats.nz_count ≤ max_entries }
-    ensures { result ≡ «added_of» sums stats }
+    ensures { result ≡ added_of sums stats }
 {
     let max = with_value(sums.max, stats.max);
     let min = with_value(sums.min, stats.min);
@@ -68,7 +68,7 @@ pub(crate) fn added(sums: KnotSums, stats: KLDivergenceStats) -> KnotSums
 // The same in place.
 pub(crate) fn add(sums: &mut KnotSums, stats: KLDivergenceStats)
     requires { stats.nz_count ≤ max_entries }
-    ensures { sums.new ≡ «added_of» sums.old stats }
+    ensures { sums.new ≡ added_of sums.old stats }
 {
     *sums = added(*sums, stats);
 }
@@ -76,7 +76,7 @@ pub(crate) fn add(sums: &mut KnotSums, stats: KLDivergenceStats)
 // `added` by way of `add`: a local is lent and comes back. It stands apart from `add_at` because that loan is proved by hand.
 pub(crate) fn with_added(sums: KnotSums, stats: KLDivergenceStats) -> KnotSums
     requires { stats.nz_count ≤ max_entries }
-    ensures { result ≡ «added_of» sums stats }
+    ensures { result ≡ added_of sums stats }
 {
     let mut changed = sums;
     add(&mut changed, stats);
@@ -137,7 +137,7 @@ pub(crate) fn put_sums(values: &mut [f64], k: usize, sums: KnotSums)
 pub(crate) fn add_at(values: &mut [f64], k: usize, stats: KLDivergenceStats)
     requires k_in_bounds { knot_values * k + 9 < length values.old }
     requires nz_count_bound { stats.nz_count ≤ max_entries }
-    ensures { values.new ≡ put_sums values.old k («added_of» (sums_at values.old k) stats) }
+    ensures { values.new ≡ put_sums values.old k (added_of (sums_at values.old k) stats) }
 {
     let sums = sums_at(values, k);
     put_sums(values, k, with_added(sums, stats));

@@ -32,14 +32,14 @@ use priors::refusals::{Checked, Reason, Refusal};
 use priors::tables::check_tables;
 
 // The number of knots, or why there are none.
-#[derive(Drop)]
+#[derive(Clone, Copy)]
 pub enum Trained {
     Knots(u32),
     NotTrained(Refusal),
 }
 
 // The number of entries after a path, or the refusal that stops the training.
-#[derive(Drop)]
+#[derive(Clone, Copy)]
 pub enum Entries {
     Used(usize),
     Stopped(Refusal),

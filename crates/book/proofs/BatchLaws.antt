@@ -13,7 +13,7 @@ use Rattle.priors.specs.Word.{word}
 use Rattle.book.specs.declared.trackers.Tracker.{Tracker}
 use Rattle.book.specs.Form.{in_form}
 use Rattle.book.specs.Figures.{All}
-use Rattle.book.specs.Calls.{Machine, BookAnswer, unless_refused, state_after, book_after, queue_with}
+use Rattle.book.specs.Calls.{Machine, unless_refused, state_after, book_after, queue_with}
 use Rattle.book.specs.Batches.{Batched, path_in, lent_path, places_in, tried, nothing_tried, batched, next_number, with_path, batch_of, batch_told, batch_answer}
 use Rattle.book.specs.Adding.{Gone}
 use Rattle.book.proofs.Window.{all_take, all_drop}
@@ -174,18 +174,18 @@ batch_end places k l h = omega arith
 module _ (t : Tracker) (book queue path : List ℕ) (t' : Tracker) (book' queue' : List ℕ) where
   pub gone_on : Gone t book queue path 0 t' book' queue' → with_path (machine t book queue) path ≡ machine t' book' queue'
   unfolding with_path
-  gone_on g = λ i. record { state = sym g.state-is i; book = sym g.book-is i; queue = sym g.queue-is i }
+  gone_on g = λ i. record { state = sym g.state_is i; book = sym g.book_is i; queue = sym g.queue_is i }
 
   -- one that is taken is accepted
   pub gone_accepted : Gone t book queue path 0 t' book' queue' → t'.accepted ≡ t.accepted + 1
   unfolding state_after
-  gone_accepted g = ap (λ (x : Tracker). x.accepted) g.state-is
+  gone_accepted g = ap (λ (x : Tracker). x.accepted) g.state_is
 
   pub gone_nowhere : (n m : ℕ) → n ≡ suc m → Gone t book queue path n t' book' queue' → machine t book queue ≡ machine t' book' queue'
   gone_nowhere n m e g =
-      let state : t' ≡ t = g.state-is ∙ ap (λ (k : ℕ). unless_refused k (state_after t book queue path) t) e in
-      let left : book' ≡ book = g.book-is ∙ ap (λ (k : ℕ). unless_refused k (book_after t book queue path) book) e in
-      let places : queue' ≡ queue = g.queue-is ∙ ap (λ (k : ℕ). unless_refused k (queue_with t queue path) queue) e in
+      let state : t' ≡ t = g.state_is ∙ ap (λ (k : ℕ). unless_refused k (state_after t book queue path) t) e in
+      let left : book' ≡ book = g.book_is ∙ ap (λ (k : ℕ). unless_refused k (book_after t book queue path) book) e in
+      let places : queue' ≡ queue = g.queue_is ∙ ap (λ (k : ℕ). unless_refused k (queue_with t queue path) queue) e in
       λ i. record { state = sym state i; book = sym left i; queue = sym places i }
 
 module _ (t : Tracker) (book queue places : List ℕ) where

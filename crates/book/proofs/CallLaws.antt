@@ -6,23 +6,22 @@ use Prim.Native.Nat.{ℕ, suc, ◌+◌, ◌*◌, ◌/◌, ◌%◌, ◌≤◌, �
 use native.Mathlib.Nat.{mod-lt}
 use native.Mathlib.Omega.{arith}
 use mathlib.Core.List.{List, ◌++◌}
-use mathlib.Core.Option.{Option, none, some}
+use mathlib.Core.Option.{none, some}
 use mathlib.Core.Bool.{Bool, true, false, cond, ◌&&◌}
 use lib.Dec.{leb, eqb}
 use lib.ListN.{length, take, drop, length-take, length-drop}
-use borrow.Author.Tests.{leb-true, le-leb, lt-leb, lt-ltb, le-ltb}
+use borrow.Author.Tests.{leb-true, le-leb, lt-leb}
 use Rattle.priors.specs.Word.{word, store}
 use Rattle.priors.specs.Rows.{Row, keys, Ascends}
 use Rattle.priors.proofs.BelowLaws.{first_true, second_true}
 use Rattle.priors.proofs.Ranks.{Bytes}
 use Rattle.book.specs.declared.trackers.Tracker.{Tracker}
-use Rattle.book.specs.declared.trackers.Changed.{Changed}
 use Rattle.entries.specs.Limits.{max_window, max_accepted, max_count}
 use Rattle.entries.specs.Entries.{rows, bytes_of, Rewritten, CountsUpTo}
-use Rattle.book.specs.Path.{listed_keys, counted_keys, path_of, whole_path}
+use Rattle.book.specs.Path.{listed_keys, counted_keys, path_of}
 use Rattle.book.specs.Form.{capacity, book_fits, queue_fits, state_fits, formed, lengths_fit, filled, in_form}
 use Rattle.book.specs.Changes.{change_all, touch_all, bump_all, fade_all, left_keys, add_rows, EndingsListed}
-use Rattle.book.specs.Calls.{BookAnswer, changed_number, changed_state, changed_answer, zeros, book_of, fresh, open_number, open_state, open_book, open_queue, open_answer, add_number, add_state, add_book, add_queue, add_answer, state_after, book_after, queue_with, listed_rows, leaving, next_place, steps_at, place_bytes, rows_after}
+use Rattle.book.specs.Calls.{BookAnswer, zeros, book_of, fresh, open_number, open_state, open_book, open_queue, open_answer, add_number, add_state, add_book, add_queue, add_answer, book_after, queue_with, listed_rows, leaving, next_place, steps_at, place_bytes, rows_after}
 use Rattle.book.specs.Adding.{Leaves, Ready}
 use Rattle.book.specs.Tidy.{rows_tidied, state_tidied, tidy_number, tidy_state, tidy_book, tidy_answer}
 use Rattle.entries.proofs.EntryLaws.{length_rows, length_bytes_of, rows_forth}
@@ -136,7 +135,7 @@ module _ (t : Tracker) (book queue : List ℕ) (form : in_form t book queue ≡ 
   unfolding rest_queue rest_formed
   form_leaves = record {
     places_fit = places_fit t.window queue (first_true (queue_fits t.window queue) rest_formed after_state);
-    lengths-fit = second_true (formed (rows book t.used)) (lengths_fit queue (filled t)) after_queue;
+    lengths_hold = second_true (formed (rows book t.used)) (lengths_fit queue (filled t)) after_queue;
   }
 
   pub form_ascends : Ascends 0 (keys (rows book t.used))
@@ -183,18 +182,18 @@ module _ (t : Tracker) (queue : List ℕ) where
       leaves_is = rw (le-leb 1 t.window (omega arith), le-leb t.window t.accepted full)
 
       pub leaves_steps : (1 ≤ word queue (next_place t)) × (word queue (next_place t) ≤ 64)
-      leaves_steps = lengths_at queue (filled t) (t.accepted % t.window) leaves.lengths-fit (omega (arith, place_lt))
+      leaves_steps = lengths_at queue (filled t) (t.accepted % t.window) leaves.lengths_hold (omega (arith, place_lt))
 
       pub leaves_length : 8 ≤ length (take (8 * word queue (next_place t)) (drop (next_place t + 4) queue))
-      leaves_length = simp (length-take, length-drop) (omega (arith, place_in leaves.places-fit, leaves_steps))
+      leaves_length = simp (length-take, length-drop) (omega (arith, place_in leaves.places_fit, leaves_steps))
 
       pub leaves_part : path_of (take (8 * word queue (next_place t)) (drop (next_place t + 4) queue)) ≡ steps_at queue (next_place t)
-      leaves_part = part_steps queue (next_place t) (omega (arith, place_in leaves.places-fit, leaves_steps))
+      leaves_part = part_steps queue (next_place t) (omega (arith, place_in leaves.places_fit, leaves_steps))
 
 -- where none leaves nothing is taken away
 pub nothing_left : (t : Tracker) (queue s : List ℕ) (n : ℕ) → leaving t queue ≡ none → Rewritten s s n (fade_all (left_keys (leaving t queue)) (rows s n))
 unfolding change_all
-nothing_left t queue s n e = rw e (record { number_is = sym (length_rows s n); rows_are = refl; rest-is = refl })
+nothing_left t queue s n e = rw e (record { number_is = sym (length_rows s n); rows_are = refl; rest_is = refl })
 
 -- ---- the path that is kept
 
@@ -214,7 +213,7 @@ module _ (t : Tracker) (book queue path : List ℕ) (r : Ready t book queue path
   listed_fit = omega (arith, r.room)
 
   pub path_short : length path ≤ 512
-  path_short = omega (arith, path_even path r.path-whole, path_high path r.path-whole)
+  path_short = omega (arith, path_even path r.path_whole, path_high path r.path_whole)
 
   module _ (s₁ : List ℕ) (n : ℕ) (len₁ : length s₁ ≡ length book)
       (first : Rewritten book s₁ n (bump_all (counted_keys (path_of path)) (touch_all (listed_keys (path_of path)) (rows book t.used)))) where
@@ -224,7 +223,7 @@ module _ (t : Tracker) (book queue path : List ℕ) (r : Ready t book queue path
     pub number_small : n ≤ 16384
     unfolding book_fits
     number_small =
-        let most : capacity book ≤ 16384 = leb-true (capacity book) 16384 (second_true (leb 1 (capacity book)) (leb (capacity book) 16384) (second_true (eqb (length book % 24) 0) (leb 1 (capacity book) && leb (capacity book) 16384) r.book-fits)) in
+        let most : capacity book ≤ 16384 = leb-true (capacity book) 16384 (second_true (leb 1 (capacity book)) (leb (capacity book) 16384) (second_true (eqb (length book % 24) 0) (leb 1 (capacity book) && leb (capacity book) 16384) r.book_sized)) in
         omega (arith, number_is, r.room)
 
     pub half_fits : 24 * n ≤ length s₁
@@ -248,5 +247,5 @@ module _ (t : Tracker) (book queue path : List ℕ) (r : Ready t book queue path
           let size : length (bytes_of after) ≡ 24 * n = length_bytes_of after ∙ ap (λ (k : ℕ). 24 * k) (sym used_is) in
           let fits : 24 * n ≤ length s₂ = omega (arith, half_fits) in
           sym (rows_forth s₂ bytes n fits)
-          ∙ ap₂ (λ (x : List Row) (y : List ℕ). bytes_of x ++ y) (second.rows_are ∙ whole) (second.rest-is ∙ first.rest-is)
+          ∙ ap₂ (λ (x : List Row) (y : List ℕ). bytes_of x ++ y) (second.rows_are ∙ whole) (second.rest_is ∙ first.rest_is)
           ∙ ap (λ (k : ℕ). bytes_of after ++ drop k book) (sym size)

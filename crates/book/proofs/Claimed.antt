@@ -8,7 +8,6 @@ use mathlib.Core.List.{List, [], ◌∷◌, ◌++◌, flat_map}
 use mathlib.Core.Option.{Option, none, some}
 use lib.ListN.{length, drop, length-append, replicate-append-replicate}
 use Rattle.priors.specs.Rows.{Row}
-use Rattle.book.specs.declared.trackers.Tracker.{Tracker}
 use Rattle.entries.specs.Entries.{rows, bytes_of}
 use Rattle.book.specs.Path.{Steps, path_of}
 use Rattle.book.specs.Changes.{add_rows}
@@ -78,7 +77,7 @@ module _ (m : Machine) (r : Recount) (w : ℕ) (book queue : List ℕ) where
 
   zeroed : open_refusal w (length book) (length queue) ≡ 0
       → ◌≡◌ {A = Machine} (record { state = fresh w; book = zeros (length book); queue = zeros (length queue) }) (image (restarted w (length book) (length queue)))
-  zeroed e = sym (image_restarted w (length book) (length queue) (open_sizes w (length book) (length queue) e).queue-fits)
+  zeroed e = sym (image_restarted w (length book) (length queue) (open_sizes w (length book) (length queue) e).queue_sized)
 
   pub open_answer_lem : (book_step m (opening w book queue)).0 ≡ (recount_step r (opening w book queue)).0
   unfolding book_step open_state open_book open_queue recount_step
@@ -148,7 +147,7 @@ module _ (r : Recount) (k : Kept r) (path : List ℕ) (bytes : All (λ b. b < 25
   unfolding image
   queue_with_lem e =
       let t = add_taken r path e in
-      queue_step r.window (length (listing (since r))) r.paths r.queue_size path k.whole (all_bytes path bytes) t.steps-whole (path_whole path t.steps-some t.steps-le)
+      queue_step r.window (length (listing (since r))) r.paths r.queue_size path k.whole (all_bytes path bytes) t.steps_whole (path_whole path t.steps_some t.steps_le)
 
   add_state_lem : add_state (image r).state (image r).book (image r).queue path ≡ state_image (recount_step r (add path)).1
   unfolding add_state recount_step image

@@ -166,19 +166,19 @@ exactly W H L j e = (λ h. e.0 (h.0, exact W H L j ∙ h.1), λ x. let l = e.1 x
 pub told : (r : Recount) → Kept r → Told (image r) r.window r.paths (since r)
 unfolding image recount_step
 told r k = record {
-  transition-listed = λ a b h. rw (rows_are r k) (exactly W H L (child_key a b) (child_listed_iff W H L ends ranks a b h));
-  transition-count = λ a b h c e. found_is (total (transitions a b) L) (total (transitions a b) (window_part W H)) c (sym (look_child W H L ends ranks a b h) ∙ exact W H L (child_key a b) ∙ (rw (rows_are r k) at e));
+  transition_listed = λ a b h. rw (rows_are r k) (exactly W H L (child_key a b) (child_listed_iff W H L ends ranks a b h));
+  transition_count = λ a b h c e. found_is (total (transitions a b) L) (total (transitions a b) (window_part W H)) c (sym (look_child W H L ends ranks a b h) ∙ exact W H L (child_key a b) ∙ (rw (rows_are r k) at e));
   node_listed = λ a. rw (rows_are r k) (exactly W H L (end_key a) (node_listed W H L ends ranks a));
-  ending-count = λ a c e. found_is (total (occurrences a) L) (total (endings a) (window_part W H)) c (sym (look_ending W H L ends ranks a) ∙ exact W H L (end_key a) ∙ (rw (rows_are r k) at e));
-  used-least = listing_least L ranks;
+  ending_count = λ a c e. found_is (total (occurrences a) L) (total (endings a) (window_part W H)) c (sym (look_ending W H L ends ranks a) ∙ exact W H L (end_key a) ∙ (rw (rows_are r k) at e));
+  used_least = listing_least L ranks;
   used_le = omega (arith, listing_least L ranks, least_le L (since_whole r k), fewer_steps r.base H k.whole);
   twelve = λ p w h l. add_number_lem r k (step_bytes p) ∙ add_fits r p w h l ∙ ap₂ (λ (a b : ℕ). cond (leb a (b / 24)) 0 12) (listing_least (L ++ p ∷ []) (all_snoc Ranks L p ranks h)) (sym (book_size_lem r k));
-  tidy-again = ap (λ (m : Machine). (book_step m tidy).1) (tidy_leaves r k) ∙ tidy_leaves (tidied r) (kept_tidied r k) ∙ sym (tidy_leaves r k);
-  tidy-of-all = λ z. tidy_leaves r k ∙ ap image (none_before r k.early z);
+  tidy_again = ap (λ (m : Machine). (book_step m tidy).1) (tidy_leaves r k) ∙ tidy_leaves (tidied r) (kept_tidied r k) ∙ sym (tidy_leaves r k);
+  tidy_of_all = λ z. tidy_leaves r k ∙ ap image (none_before r k.early z);
   total_visits = λ a. rw (rows_are r k) (total_visits W H L ends ranks a);
   total_none = λ a. rw (rows_are r k) (total_none W H L ends ranks a);
   unlisted = λ a h. never_visited W H L ends a (λ s. h (rw (rows_are r k) ((exactly W H L (end_key a) (node_listed W H L ends ranks a)).1 s)));
-  all_counts_lem = rw (rows_are r k) (all_counts_lem W H L ends);
+  all_counted = rw (rows_are r k) (all_counts_lem W H L ends);
 }
   where
     W : ℕ

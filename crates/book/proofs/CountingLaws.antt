@@ -7,19 +7,18 @@ use native.Mathlib.Nat.{not-suc-le-zero, eq-or-lt_of_le}
 use native.Mathlib.Omega.{arith}
 use mathlib.Core.List.{List, [], ◌∷◌}
 use mathlib.Core.Logic.{⊎_elim}
-use mathlib.Core.Bool.{Bool, true, false, cond}
+use mathlib.Core.Bool.{true}
 use mathlib.Core.Option.{Option, some}
 use lib.ListN.{length, get_or, set, drop, length-map, get_or-map, drop_of_length-le}
 use lib.Seq.{drop-cons, map-set_same, get_or-set_same, get_or-set_other}
 use Rattle.priors.specs.Rows.{Row, row, keys, Ascends, change, bump, touch}
-use Rattle.priors.specs.Search.{blank, place, holds}
+use Rattle.priors.specs.Search.{blank, holds}
 use Rattle.priors.proofs.Ranks.{Bytes}
 use Rattle.priors.proofs.RowLaws.{touch_found}
 use Rattle.priors.proofs.ByPlace.{Spot, look_spot, change_spot}
 use Rattle.entries.specs.Keys.{end_key, child_key}
 use Rattle.book.specs.Path.{Steps, path_of, listed_keys, counted_keys}
-use Rattle.entries.specs.declared.entries.Found.TheVariants.{At, Missing}
-use Rattle.entries.specs.Entries.{rows, find_in, with_count, entry_count_at, Rewritten, CountsUpTo}
+use Rattle.entries.specs.Entries.{rows, with_count, entry_count_at, Rewritten, CountsUpTo}
 use Rattle.book.specs.Figures.{Listed, Ranks}
 use Rattle.book.specs.Changes.{EndingsListed, change_all, touch_all, bump_all}
 use Rattle.book.specs.Adding.{Stand}
@@ -110,7 +109,7 @@ module _ (s₀ : List ℕ) (n : ℕ) (ks ps : List ℕ) (fits : 24 * n ≤ lengt
   place_fits = omega (arith, at_lt s n (get_or ks i 0) (get_or ps i 0) still_fits there, still_fits)
 
   pub count_fits : entry_count_at s (get_or ps i 0) ≤ 2 ^ 31 + i
-  count_fits = count_at s n (get_or ks i 0) (get_or ps i 0) still_fits there (2 ^ 31 + i) so_far.counts-fit
+  count_fits = count_at s n (get_or ks i 0) (get_or ps i 0) still_fits there (2 ^ 31 + i) so_far.counts_fit
 
   pub counting_on : i ≤ 64 → (s' : List ℕ) → length s' ≡ length s → s' ≡ with_count s (get_or ps i 0) (entry_count_at s (get_or ps i 0) + 1) → Counting s₀ n ks s' (i + 1)
   counting_on few s' len e =
@@ -119,9 +118,9 @@ module _ (s₀ : List ℕ) (n : ℕ) (ks ps : List ℕ) (fits : 24 * n ≤ lengt
       let m : ℕ = 2 ^ 31 + i in
       record {
         same_length = len ∙ so_far.same_length;
-        rest_is = r.rest-is ∙ so_far.rest-is;
+        rest_is = r.rest_is ∙ so_far.rest_is;
         same_keys = ap keys r.rows_are ∙ keys_stay (some 1) (λ c. c + 1) k (get_or ps i 0) (rows s n) there ∙ so_far.same_keys;
-        counts_fit = rw r.rows_are (counts_change m (2 ^ 31 + (i + 1)) 1 (λ c. c + 1) k (rows s n) (omega arith) (omega arith) (λ d l. omega arith) so_far.counts-fit);
+        counts_fit = rw r.rows_are (counts_change m (2 ^ 31 + (i + 1)) 1 (λ c. c + 1) k (rows s n) (omega arith) (omega arith) (λ d l. omega arith) so_far.counts_fit);
         left = rw r.rows_are (bump_next ks i (rows s n) more ∙ so_far.left);
       }
 
@@ -129,7 +128,7 @@ pub counting_done : (s₀ : List ℕ) (n : ℕ) (ks s : List ℕ) (i : ℕ) → 
 unfolding change_all
 counting_done s₀ n ks s i so_far l =
     let is : rows s n ≡ bump_all ks (rows s₀ n) = rw (drop_of_length-le ks l) at so_far.left in
-    record { number_is = sym (length_rows s n) ∙ ap length is; rows_are = is; rest_is = so_far.rest-is }
+    record { number_is = sym (length_rows s n) ∙ ap length is; rows_are = is; rest_is = so_far.rest_is }
 
 -- ---- a path that lists nothing new
 

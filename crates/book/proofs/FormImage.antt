@@ -25,10 +25,10 @@ module _ (r : Recount) (k : Kept r) where
   book_size_lem = length_book r.window r.paths (since r) r.book_size (omega (arith, k.listed_le))
 
   queue_size_lem : length (queue_image r.window r.paths r.queue_size) ≡ r.queue_size
-  queue_size_lem = length_queue r.window r.paths r.queue_size k.whole k.sizes.queue-fits
+  queue_size_lem = length_queue r.window r.paths r.queue_size k.whole k.sizes.queue_sized
 
   pub rows_are : rows (book_image r.window r.paths (since r) r.book_size) (length (listing (since r))) ≡ rows_of r.window r.paths (since r)
-  rows_are = rows_image r.window r.paths (since r) k.whole k.paths-le (since_ranks r k) r.book_size
+  rows_are = rows_image r.window r.paths (since r) k.whole k.paths_le (since_ranks r k) r.book_size
 
   pub in_form_lem : in_form (image r).state (image r).book (image r).queue ≡ true
   unfolding in_form state_fits queue_fits image
@@ -37,9 +37,9 @@ module _ (r : Recount) (k : Kept r) where
       let n : ℕ = length r.paths in
       let filled : ℕ = min r.window n in
       rw (book_fits_lem (book_image r.window r.paths (since r) r.book_size), book_size_lem, queue_size_lem, rows_are)
-      (rw (le-leb 24 r.book_size s.book-some, eq-eqb (r.book_size % 24) 0 s.book-whole, le-leb r.book_size (24 * 16384) s.book-le)
-      (rw (le-leb r.window 1024 s.window-le, le-leb (length (listing (since r))) (r.book_size / 24) k.listed_le, le-leb n 16777216 k.paths-le)
-      (rw (le-leb (516 * r.window) r.queue_size s.queue-fits, formed_image r.window r.paths (since r) k.whole k.paths-le (since_ranks r k))
+      (rw (le-leb 24 r.book_size s.book_some, eq-eqb (r.book_size % 24) 0 s.book_whole, le-leb r.book_size (24 * 16384) s.book_le)
+      (rw (le-leb r.window 1024 s.window_le, le-leb (length (listing (since r))) (r.book_size / 24) k.listed_le, le-leb n 16777216 k.paths_le)
+      (rw (le-leb (516 * r.window) r.queue_size s.queue_sized, formed_image r.window r.paths (since r) k.whole k.paths_le (since_ranks r k))
       (lengths_fit_lem r.window r.paths r.queue_size k.whole filled (omega arith) (omega arith)))))
 
   pub add_number_lem : (path : List ℕ) → add_number (image r).state (image r).book (image r).queue path ≡ add_refusal r path

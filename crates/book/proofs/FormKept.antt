@@ -1,13 +1,13 @@
 -- The form is kept by an add but for its counts: whatever is listed is an ending or a child, in ascent, and its node's ending is listed. So where no count passes 2^30 on
 -- the way, each add of a list of paths is in form, and is a whole single add. Assumes nothing.
-use mathlib.Core.Path.{◌≡◌, refl, sym, ap, ap₂, ◌∙◌}
-use mathlib.Core.Logic.{◌⊎◌, inl, inr, ⊎_elim}
-use Prim.Native.Nat.{ℕ, zero, suc, ◌+◌, ◌-◌, ◌*◌, ◌/◌, ◌%◌, ◌^◌, ◌≤◌, ◌<◌}
+use mathlib.Core.Path.{◌≡◌, refl, sym, ap, ◌∙◌}
+use mathlib.Core.Logic.{inl, inr, ⊎_elim}
+use Prim.Native.Nat.{ℕ, zero, suc, ◌+◌, ◌-◌, ◌*◌, ◌/◌, ◌^◌, ◌≤◌, ◌<◌}
 use native.Mathlib.Omega.{arith}
 use mathlib.Core.List.{List, [], ◌∷◌, ◌++◌}
 use mathlib.Core.Option.{Option, none, some}
-use mathlib.Core.Bool.{Bool, true, false, ◌&&◌, ◌||◌}
-use lib.Dec.{leb, ltb, eqb}
+use mathlib.Core.Bool.{true}
+use lib.Dec.{leb, ltb}
 use lib.ListN.{length, drop, length-append, length-drop, length-map}
 use lib.Seq.{drop_at, get_or-drop}
 use borrow.Author.Tests.{leb-true, ltb-true, le-leb}
@@ -21,7 +21,7 @@ use Rattle.entries.specs.Limits.{max_window, max_accepted, max_count}
 use Rattle.entries.specs.Keys.{no_child, end_key, child_key, node_of}
 use Rattle.entries.specs.Entries.{key_at, row_at, rows, bytes_of, Rewritten, CountsUpTo}
 use Rattle.book.specs.Path.{Steps, path_of, whole_path, listed_keys, counted_keys}
-use Rattle.book.specs.Figures.{All, Listed, Ranks}
+use Rattle.book.specs.Figures.{All, Ranks}
 use Rattle.book.specs.Form.{capacity, queue_fits, state_fits, plain, formed, in_form}
 use Rattle.book.specs.Changes.{change_all, touch_all, bump_all, fade_all, left_keys, add_rows, EndingsListed}
 use Rattle.book.specs.Calls.{Machine, unless_refused, listed_rows, leaving, rows_after, state_after, book_after, queue_with, add_number, add_state, add_book, add_queue}
@@ -161,9 +161,9 @@ unfolding in_form state_fits queue_fits
 shaped_form m s counts =
     let t = m.state in
     let g = s.going in
-    rw (g.book-fits, le-leb t.window max_window s.window-le, le-leb t.used (capacity m.book) (omega (arith, g.used-fit)), le-leb t.accepted max_accepted g.accepted-fit)
-    (rw (le-leb (516 * t.window) (length m.queue) g.queue-fits.places-fit, rows_formed (rows m.book t.used) g.ascends g.endings-listed s.good counts)
-    g.queue-fits.lengths-fit)
+    rw (g.book_sized, le-leb t.window max_window s.window_le, le-leb t.used (capacity m.book) (omega (arith, g.used_fit)), le-leb t.accepted max_accepted g.accepted_fit)
+    (rw (le-leb (516 * t.window) (length m.queue) g.queue_sized.places_fit, rows_formed (rows m.book t.used) g.ascends g.endings_listed s.good counts)
+    g.queue_sized.lengths_hold)
 
 form_shaped : (m : Machine) → Bytes m.book → in_form m.state m.book m.queue ≡ true → Shaped m
 form_shaped m bytes form = record {
@@ -180,7 +180,7 @@ written s rs r fits =
       record {
         number_is = refl;
         rows_are = rows_bytes_of rs (drop (length (bytes_of rs)) s) r;
-        rest-is = drop_at (bytes_of rs) (drop (length (bytes_of rs)) s) (24 * length rs) size ∙ ap (λ (k : ℕ). drop k s) size;
+        rest_is = drop_at (bytes_of rs) (drop (length (bytes_of rs)) s) (24 * length rs) size ∙ ap (λ (k : ℕ). drop k s) size;
       },
     )
 
@@ -243,12 +243,12 @@ module _ (m : Machine) (path : List ℕ) (bytes : All (λ b. b < 256) path) (s :
       rw first.1.rows_are (record {
         number_is = sym same_number;
         rows_are = ap (rows s₂) (sym same_number) ∙ second.1.rows_are;
-        rest-is = ap (λ (k : ℕ). drop (24 * k) s₂) (sym same_number) ∙ second.1.rest-is ∙ ap (λ (k : ℕ). drop (24 * k) m.book) same_number ∙ sym first.1.rest-is;
+        rest_is = ap (λ (k : ℕ). drop (24 * k) s₂) (sym same_number) ∙ second.1.rest_is ∙ ap (λ (k : ℕ). drop (24 * k) m.book) same_number ∙ sym first.1.rest_is;
       }) in
       let on = going_on t m.book m.queue path s.going passed.0 passed.1 passed.2 (all_bytes path bytes) s₁ (length half) first.0 first.1 s₂ (second.0 ∙ sym first.0) again in
       record {
         going = rw (same_number) on;
-        window_le = s.window-le;
+        window_le = s.window_le;
         good = rw second.1.rows_are good_after;
       }
 

@@ -1,8 +1,8 @@
 -- Lists of adds behind one test of the form: what the test hands to the first, and what each hands to the next. Assumes nothing.
-use mathlib.Core.Path.{◌≡◌, refl, sym, ap, ap₂, ◌∙◌}
+use mathlib.Core.Path.{◌≡◌, refl, sym, ap, ◌∙◌}
 use mathlib.Core.Logic.{◌⊎◌, inl, inr, ⊎_elim}
 use Prim.Native.Nat.{ℕ, zero, suc, ◌+◌, ◌-◌, ◌*◌, ◌/◌, ◌%◌, ◌^◌, ◌≤◌, ◌<◌, min}
-use native.Mathlib.Nat.{mod-lt, mod-eq_of_lt}
+use native.Mathlib.Nat.{mod-eq_of_lt}
 use native.Mathlib.Omega.{arith}
 use mathlib.Core.List.{List, [], ◌∷◌, ◌++◌, append_assoc}
 use mathlib.Core.Option.{Option, none, some}
@@ -12,7 +12,7 @@ use lib.ListN.{length, take, drop, length-append, length-replicate}
 use lib.Seq.{length-take-le}
 use borrow.Author.Tests.{leb-true, le-leb, lt-leb, lt-ltb, le-ltb}
 use Rattle.priors.specs.Word.{word, word_bytes, store}
-use Rattle.priors.specs.Rows.{Row, keys, Ascends, look, change, touch, bump, fade}
+use Rattle.priors.specs.Rows.{Row, look, change, touch, bump, fade}
 use Rattle.priors.proofs.Tests.{three}
 use Rattle.priors.proofs.BelowLaws.{second_true}
 use Rattle.priors.proofs.Ranks.{Bytes}
@@ -28,7 +28,7 @@ use Rattle.entries.specs.Entries.{rows, Rewritten, CountsUpTo}
 use Rattle.book.specs.Form.{capacity, book_fits, lengths_fit, filled, in_form}
 use Rattle.book.specs.Changes.{EndingsListed, change_all, touch_all, bump_all, fade_all, left_keys}
 use Rattle.book.specs.declared.trackers.Changed.{Changed}
-use Rattle.book.specs.Calls.{Machine, BookAnswer, changed_number, changed_state, changed_answer, unless_refused, zeros, listed_rows, leaving, next_place, place_bytes, queue_with, state_after, book_after, add_number, add_state, add_book, add_queue, add_answer}
+use Rattle.book.specs.Calls.{Machine, changed_number, changed_state, changed_answer, unless_refused, zeros, listed_rows, leaving, next_place, place_bytes, queue_with, state_after, book_after, add_number, add_state, add_book, add_queue, add_answer}
 use Rattle.book.specs.Batches.{next_number}
 use Rattle.book.specs.Adding.{Leaves, Ready, Going, Gone, next_state}
 use Rattle.book.proofs.Passes.{one_pass}
@@ -143,12 +143,12 @@ module _ (path : List ℕ) (whole : whole_path path ≡ true) where
 
     module _ (some-window : t.window ≡ 0 → ⊥) where
       place : next_place t + 516 ≤ length q
-      place = place_in t q some-window leaves.places-fit
+      place = place_in t q some-window leaves.places_fit
 
       elsewhere : (j : ℕ) → j < min t.window t.accepted → (516 * j + 4 ≤ next_place t) ⊎ (next_place t + 516 ≤ 516 * j) → Whole_at (store q (next_place t) (place_bytes path)) j
       elsewhere j l o =
           let apart : (516 * j + 4 ≤ next_place t) ⊎ (next_place t + length (place_bytes path) ≤ 516 * j) = ⊎_elim (λ x. inl x) (λ x. inr (omega (arith, length_place))) o in
-          rw (word_store_other q (next_place t) (place_bytes path) (516 * j) (omega (arith, length_place, place)) apart) (lengths_at q (filled t) j leaves.lengths-fit l)
+          rw (word_store_other q (next_place t) (place_bytes path) (516 * j) (omega (arith, length_place, place)) apart) (lengths_at q (filled t) j leaves.lengths_hold l)
 
       at : (j : ℕ) → j < min t.window (t.accepted + 1) → (j < t.accepted % t.window) ⊎ ((j ≡ t.accepted % t.window) ⊎ (t.accepted % t.window < j)) → Whole_at (store q (next_place t) (place_bytes path)) j
       at j l (inl lt) = elsewhere j (was_filled t.window t.accepted j l (λ e. omega arith)) (inl (omega arith))
@@ -159,7 +159,7 @@ module _ (path : List ℕ) (whole : whole_path path ≡ true) where
       stored_lengths = lengths_of (store q (next_place t) (place_bytes path)) (min t.window (t.accepted + 1)) (λ j l. at j l (three j (t.accepted % t.window)))
 
       stored_fit : 516 * t.window ≤ length (store q (next_place t) (place_bytes path))
-      stored_fit = omega (arith, leaves.places-fit, place, length_place, length_store q (next_place t) (place_bytes path) (omega (arith, length_place, place)))
+      stored_fit = omega (arith, leaves.places_fit, place, length_place, length_store q (next_place t) (place_bytes path) (omega (arith, length_place, place)))
 
     pub kept_leaves : (n : ℕ) → Leaves (next_state t n) (queue_with t q path)
     kept_leaves n = go t.window refl
@@ -167,35 +167,35 @@ module _ (path : List ℕ) (whole : whole_path path ≡ true) where
         go : (w : ℕ) → t.window ≡ w → Leaves (next_state t n) (queue_with t q path)
         go zero e =
             rw (← none_kept t q path e)
-            (record { places-fit = leaves.places-fit; lengths-fit = lengths_of q (min t.window (t.accepted + 1)) (λ j l. absurd (omega arith)) })
+            (record { places_fit = leaves.places_fit; lengths_hold = lengths_of q (min t.window (t.accepted + 1)) (λ j l. absurd (omega arith)) })
         go (suc w) e =
             let there : t.window ≡ 0 → ⊥ = λ z. omega arith in
             rw (← kept t q path there)
-            (record { places-fit = stored_fit there; lengths-fit = stored_lengths there })
+            (record { places_fit = stored_fit there; lengths_hold = stored_lengths there })
 
 -- ---- from one add to the next
 
 -- what the form hands to the first
 pub form_going : (t : Tracker) (book queue : List ℕ) → in_form t book queue ≡ true → Going t book queue
 form_going t book queue form = record {
-  book-fits = form_book t book queue form;
-  used-fit = form_used t book queue form;
+  book_sized = form_book t book queue form;
+  used_fit = form_used t book queue form;
   ascends = form_ascends t book queue form;
-  endings-listed = form_endings t book queue form;
-  counts-fit = counts_rise max_count (max_count + 64 * t.accepted) (rows book t.used) (omega arith) (form_counts t book queue form);
-  queue-fits = form_leaves t book queue form;
-  accepted-fit = form_accepted t book queue form;
+  endings_listed = form_endings t book queue form;
+  counts_fit = counts_rise max_count (max_count + 64 * t.accepted) (rows book t.used) (omega arith) (form_counts t book queue form);
+  queue_sized = form_leaves t book queue form;
+  accepted_fit = form_accepted t book queue form;
 }
 
 module _ (t : Tracker) (book queue : List ℕ) (g : Going t book queue) where
   pub counts_below : CountsUpTo (2 ^ 31) (rows book t.used)
-  counts_below = counts_rise (max_count + 64 * t.accepted) (2 ^ 31) (rows book t.used) (omega (arith, g.accepted-fit)) g.counts-fit
+  counts_below = counts_rise (max_count + 64 * t.accepted) (2 ^ 31) (rows book t.used) (omega (arith, g.accepted_fit)) g.counts_fit
 
   pub used_small : t.used ≤ 16384
   unfolding book_fits
   used_small =
-      let most : capacity book ≤ 16384 = leb-true (capacity book) 16384 (second_true (leb 1 (capacity book)) (leb (capacity book) 16384) (second_true (eqb (length book % 24) 0) (leb 1 (capacity book) && leb (capacity book) 16384) g.book-fits)) in
-      omega (arith, g.used-fit)
+      let most : capacity book ≤ 16384 = leb-true (capacity book) 16384 (second_true (leb 1 (capacity book)) (leb (capacity book) 16384) (second_true (eqb (length book % 24) 0) (leb 1 (capacity book) && leb (capacity book) 16384) g.book_sized)) in
+      omega (arith, g.used_fit)
 
 -- ---- the number
 
@@ -217,7 +217,7 @@ module _ (t : Tracker) (book queue path : List ℕ) where
 
   -- a refused path changes nothing
   pub gone_refused : (n : ℕ) → Going t book queue → next_number (machine t book queue) path ≡ suc n → Gone t book queue path (suc n) t book queue
-  gone_refused n g e = record { number_is = sym e; state-is = refl; book_is = refl; queue-is = refl; going = g }
+  gone_refused n g e = record { number_is = sym e; state_is = refl; book_is = refl; queue_is = refl; going = g }
 
   module _ (form : in_form t book queue ≡ true) where
     -- in form, it is the answer of a single add
@@ -229,22 +229,22 @@ module _ (t : Tracker) (book queue path : List ℕ) where
     unfolding add_state add_book add_queue
     gone_answer a book' queue' g =
         let e : changed_number a ≡ add_number t book queue path = g.number_is ∙ sym formed_number in
-        let state : changed_state a ≡ add_state t book queue path = g.state-is ∙ ap (λ (n : ℕ). unless_refused n (state_after t book queue path) t) e in
-        let left : book' ≡ add_book t book queue path = g.book-is ∙ ap (λ (n : ℕ). unless_refused n (book_after t book queue path) book) e in
-        let places : queue' ≡ add_queue t book queue path = g.queue-is ∙ ap (λ (n : ℕ). unless_refused n (queue_with t queue path) queue) e in
+        let state : changed_state a ≡ add_state t book queue path = g.state_is ∙ ap (λ (n : ℕ). unless_refused n (state_after t book queue path) t) e in
+        let left : book' ≡ add_book t book queue path = g.book_is ∙ ap (λ (n : ℕ). unless_refused n (book_after t book queue path) book) e in
+        let places : queue' ≡ add_queue t book queue path = g.queue_is ∙ ap (λ (n : ℕ). unless_refused n (queue_with t queue path) queue) e in
         λ i. record { number = e i; state = some (state i); taken = none; book = left i; queue = places i }
 
 module _ (t : Tracker) (book queue path : List ℕ) (g : Going t book queue) (whole : whole_path path ≡ true) (more : t.accepted < max_accepted)
     (room : length (listed_rows t book path) ≤ capacity book) where
   pub ready : Ready t book queue path
   ready = record {
-    book-fits = g.book-fits;
-    used-fit = g.used-fit;
+    book_sized = g.book_sized;
+    used_fit = g.used_fit;
     ascends = g.ascends;
-    endings-listed = g.endings-listed;
-    counts-fit = counts_below t book queue g;
-    queue-fits = g.queue-fits;
-    path-whole = whole;
+    endings_listed = g.endings_listed;
+    counts_fit = counts_below t book queue g;
+    queue_sized = g.queue_sized;
+    path_whole = whole;
     not_last = more;
     room = room;
   }
@@ -255,7 +255,7 @@ module _ (t : Tracker) (book queue path : List ℕ) (g : Going t book queue) (wh
     half_endings : EndingsListed (rows s₁ n)
     half_endings =
         rw (first.rows_are ∙ sym (one_pass_lem (path_of path) (rows book t.used) g.ascends))
-        (pass_endings (path_of path) (rows book t.used) (steps_ranks path bytes (length path / 8)) g.endings-listed)
+        (pass_endings (path_of path) (rows book t.used) (steps_ranks path bytes (length path / 8)) g.endings_listed)
 
     half_counts : CountsUpTo (max_count + 64 * (t.accepted + 1)) (rows s₁ n)
     half_counts =
@@ -265,28 +265,28 @@ module _ (t : Tracker) (book queue path : List ℕ) (g : Going t book queue) (wh
         let few : length ks ≤ 64 = omega (arith, length_counted (path_of path), length_steps path (length path / 8), path_high path whole) in
         rw first.rows_are
         (counts_rise (m + length ks) (max_count + 64 * (t.accepted + 1)) (bump_all ks (touch_all ls (rows book t.used))) (omega arith)
-        (counts_bumps m ks (touch_all ls (rows book t.used)) (counts_touches m ls (rows book t.used) g.counts-fit)))
+        (counts_bumps m ks (touch_all ls (rows book t.used)) (counts_touches m ls (rows book t.used) g.counts_fit)))
 
     pub going_on : Going (next_state t n) s₂ (queue_with t queue path)
     unfolding book_fits
     going_on =
         let len : length s₂ ≡ length book = len₂ ∙ len₁ in
         record {
-          book-fits = rw len g.book-fits;
-          used-fit = omega (arith, half_fits t book queue path ready s₁ n len₁ first);
+          book_sized = rw len g.book_sized;
+          used_fit = omega (arith, half_fits t book queue path ready s₁ n len₁ first);
           ascends = rw second.rows_are (ascends_all none (λ c. c - 1) (left_keys (leaving t queue)) (rows s₁ n) (half_ascends t book queue path ready s₁ n len₁ first));
-          endings-listed = rw second.rows_are (fades_endings (left_keys (leaving t queue)) (rows s₁ n) half_endings);
-          counts-fit = rw second.rows_are (counts_fades (max_count + 64 * (t.accepted + 1)) (left_keys (leaving t queue)) (rows s₁ n) half_counts);
-          queue-fits = kept_leaves path whole t queue g.queue-fits n;
-          accepted-fit = omega (arith, more);
+          endings_listed = rw second.rows_are (fades_endings (left_keys (leaving t queue)) (rows s₁ n) half_endings);
+          counts_fit = rw second.rows_are (counts_fades (max_count + 64 * (t.accepted + 1)) (left_keys (leaving t queue)) (rows s₁ n) half_counts);
+          queue_sized = kept_leaves path whole t queue g.queue_sized n;
+          accepted_fit = omega (arith, more);
         }
 
     pub gone_taken : Bytes s₂ → (t' : Tracker) → t' ≡ next_state t n → (queue' : List ℕ) → queue' ≡ queue_with t queue path → Gone t book queue path 0 t' s₂ queue'
     unfolding state_after next_number
     gone_taken bytes₂ t' e queue' f = record {
       number_is = rw (whole, lt-ltb t.accepted max_accepted more, le-leb (length (listed_rows t book path)) (capacity book) room);
-      state-is = e ∙ ap (next_state t) (used_is t book queue path ready s₁ n len₁ first s₂ second);
+      state_is = e ∙ ap (next_state t) (used_is t book queue path ready s₁ n len₁ first s₂ second);
       book_is = book_is t book queue path ready s₁ n len₁ first s₂ second bytes₂ len₂;
-      queue-is = f;
+      queue_is = f;
       going = rw (e, f) going_on;
     }

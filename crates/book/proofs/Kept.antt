@@ -27,7 +27,7 @@ pub record Sizes (window book_size queue_size : ℕ) : Type 0 where
   pub book_some : 24 ≤ book_size
   pub book_whole : book_size % 24 ≡ 0
   pub book_le : book_size ≤ 24 * 16384
-  pub queue_fits_lem : 516 * window ≤ queue_size
+  pub queue_sized : 516 * window ≤ queue_size
 
 -- the base lies before the window part
 abbrev pub Early : Recount → Type 0
@@ -69,7 +69,7 @@ open_sizes w b q h =
       book_some = leb-true 24 b low.0;
       book_whole = eqb-true (b % 24) 0 high.0;
       book_le = leb-true b (24 * 16384) high.1;
-      queue_fits_lem = leb-true (516 * w) q sides.1;
+      queue_sized = leb-true (516 * w) q sides.1;
     }
 
 pub add_taken : (r : Recount) (path : List ℕ) → add_refusal r path ≡ 0 → Taken r path
@@ -141,8 +141,8 @@ kept_joined r path k bytes t = record {
   sizes = k.sizes;
   listed_le = rw (since_joined r k.early (path_of path)) t.room;
   early = early_joined r k.early (path_of path);
-  paths_le = omega (arith, length-append r.paths (path_of path ∷ []), t.paths-lt);
-  whole = all_snoc Whole r.paths (path_of path) k.whole (path_whole path t.steps-some t.steps-le);
+  paths_le = omega (arith, length-append r.paths (path_of path ∷ []), t.paths_lt);
+  whole = all_snoc Whole r.paths (path_of path) k.whole (path_whole path t.steps_some t.steps_le);
   ranks = all_snoc Ranks r.paths (path_of path) k.ranks (steps_ranks path (all_bytes path bytes) (length path / 8));
 }
 
@@ -151,7 +151,7 @@ kept_tidied r k = record {
   sizes = k.sizes;
   listed_le = rw (drop_before r.window r.paths) (omega (arith, k.listed_le, listing_shrinks r.window r.paths (since r) (since_ends r k) (since_ranks r k)));
   early = omega arith;
-  paths_le = k.paths-le;
+  paths_le = k.paths_le;
   whole = k.whole;
   ranks = k.ranks;
 }

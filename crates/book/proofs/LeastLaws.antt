@@ -31,17 +31,17 @@ module _ {ks ns : List ℕ} {ps : List (ℕ × ℕ)} (d : Parted ks ns ps) where
   one_node : (x : ℕ) → Parted (end_key x ∷ ks) (x ∷ ns) ps
   unfolding among different
   one_node x = record {
-    endings_are = λ a. ap₂ (λ (s t : Bool). s || t) (same_test (eqb (end_key a) (end_key x)) (eqb a x) (end_end a x)) (d.endings-are a);
-    children_are = λ a b r. rw (same_test (eqb (child_key a b) (end_key x)) false (child_end a b x r)) (d.children-are a b r);
-    sum_is = rw (d.endings-are x) (omega (arith, d.sum_is));
+    endings_are = λ a. ap₂ (λ (s t : Bool). s || t) (same_test (eqb (end_key a) (end_key x)) (eqb a x) (end_end a x)) (d.endings_are a);
+    children_are = λ a b r. rw (same_test (eqb (child_key a b) (end_key x)) false (child_end a b x r)) (d.children_are a b r);
+    sum_is = rw (d.endings_are x) (omega (arith, d.sum_is));
   }
 
   one_pair : (x y : ℕ) → y < 2 ^ 64 → Parted (child_key x y ∷ ks) ns ((x, y) ∷ ps)
   unfolding among different
   one_pair x y h = record {
-    endings_are = λ a. rw (same_test (eqb (end_key a) (child_key x y)) false (end_child a x y h)) (d.endings-are a);
-    children_are = λ a b r. ap₂ (λ (s t : Bool). s || t) (same_test (eqb (child_key a b) (child_key x y)) (eqb a x && eqb b y) (child_child a b x y r h)) (d.children-are a b r);
-    sum_is = rw (d.children-are x y h) (omega (arith, d.sum_is));
+    endings_are = λ a. rw (same_test (eqb (end_key a) (child_key x y)) false (end_child a x y h)) (d.endings_are a);
+    children_are = λ a b r. ap₂ (λ (s t : Bool). s || t) (same_test (eqb (child_key a b) (child_key x y)) (eqb a x && eqb b y) (child_child a b x y r h)) (d.children_are a b r);
+    sum_is = rw (d.children_are x y h) (omega (arith, d.sum_is));
   }
 
 one_path_lem : (p : Steps) → Ranks p → {ks ns : List ℕ} {ps : List (ℕ × ℕ)} → Parted ks ns ps → Parted (listed_keys p ++ ks) (p ++ ns) (pairs p ++ ps)

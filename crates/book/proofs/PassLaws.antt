@@ -58,7 +58,7 @@ module _ (s : List ℕ) (n e k : ℕ) (s' : List ℕ) (n' : ℕ) (r : Rewritten 
   both_done s'' m q =
       let up : n' ≤ m = omega (arith, q.number_is, grows (some 1) (λ c. c + 1) k (rows s' n'), length_rows s' n') in
       let is : bump k (rows s' n') ≡ bump k (touch e (rows s n)) = ap (bump k) r.rows_are in
-      record { number_is = q.number_is ∙ ap length is; rows_are = q.rows_are ∙ is; rest_is = q.rest-is ∙ later s' s n' m up r.rest-is }
+      record { number_is = q.number_is ∙ ap length is; rows_are = q.rows_are ∙ is; rest_is = q.rest_is ∙ later s' s n' m up r.rest_is }
 
 -- ---- a path is added
 
@@ -104,13 +104,13 @@ module _ (s₀ : List ℕ) (n₀ : ℕ) (p : Steps) (room : 24 * length (one_pas
           let m : ℕ = 2 ^ 31 + i in
           let counted : CountsUpTo (2 ^ 31 + (i + 1)) next =
           counts_change m (2 ^ 31 + (i + 1)) 1 (λ c. c + 1) (child_key a b) t (omega arith) (omega arith) (λ d l. omega arith)
-          (counts_change m m 0 (λ c. c) (end_key a) (rows s n) (omega arith) (omega arith) (λ d l. l) so_far.counts-fit) in
+          (counts_change m m 0 (λ c. c) (end_key a) (rows s n) (omega arith) (omega arith) (λ d l. l) so_far.counts_fit) in
           record {
             same_length = len ∙ so_far.same_length;
             fits = omega (arith, pair_room, r.number_is);
-            rest_is = r.rest-is ∙ later s s₀ n n' below so_far.rest-is;
+            rest_is = r.rest_is ∙ later s s₀ n n' below so_far.rest_is;
             ascends = rw r.rows_are asc;
-            endings_listed = rw r.rows_are (pair_keeps (some 1) (λ c. c + 1) a b (rows s n) small so_far.endings-listed);
+            endings_listed = rw r.rows_are (pair_keeps (some 1) (λ c. c + 1) a b (rows s n) small so_far.endings_listed);
             counts_fit = rw r.rows_are counted;
             left = rw r.rows_are on;
           }
@@ -128,7 +128,7 @@ module _ (s₀ : List ℕ) (n₀ : ℕ) (p : Steps) (room : 24 * length (one_pas
       passing_done s' n' asc r =
           let below : n ≤ n' = omega (arith, grows (some 1) (λ c. c + 1) (end_key a) (rows s n), r.number_is, length_rows s n) in
           let is : bump (end_key a) (rows s n) ≡ bump_all (counted_keys p) (touch_all (listed_keys p) (rows s₀ n₀)) = ended ∙ one_pass_lem p (rows s₀ n₀) asc in
-          record { number_is = r.number_is ∙ ap length is; rows_are = r.rows_are ∙ is; rest_is = r.rest-is ∙ later s s₀ n n' below so_far.rest-is }
+          record { number_is = r.number_is ∙ ap length is; rows_are = r.rows_are ∙ is; rest_is = r.rest_is ∙ later s s₀ n n' below so_far.rest_is }
 
 -- ---- a path is taken away
 
@@ -149,7 +149,7 @@ module _ (s₀ : List ℕ) (n : ℕ) (p : Steps) where
         let on : fade_all (counted_keys (drop (i + 1) p)) (fade (child_key a b) (rows s n)) ≡ fade_all (counted_keys p) (rows s₀ n) = rw (a-is, b-is, add-one i) (sym (fade_on p i (rows s n) l) ∙ so_far.left) in
         record {
           same_length = len ∙ so_far.same_length;
-          rest_is = r.rest-is ∙ so_far.rest-is;
+          rest_is = r.rest_is ∙ so_far.rest_is;
           ascends = rw r.rows_are (ascends_change none (λ c. c - 1) (child_key a b) 0 (rows s n) zero-le so_far.ascends);
           left = rw r.rows_are on;
         }
@@ -158,4 +158,4 @@ module _ (s₀ : List ℕ) (n : ℕ) (p : Steps) where
     fading_done at-end s' r =
         let l : suc i ≡ length p = omega arith in
         let is : fade (end_key a) (rows s n) ≡ fade_all (counted_keys p) (rows s₀ n) = rw a-is (sym (fade_last p i (rows s n) l) ∙ so_far.left) in
-        record { number_is = r.number_is ∙ ap length is; rows_are = r.rows_are ∙ is; rest_is = r.rest-is ∙ so_far.rest-is }
+        record { number_is = r.number_is ∙ ap length is; rows_are = r.rows_are ∙ is; rest_is = r.rest_is ∙ so_far.rest_is }

@@ -174,7 +174,7 @@ module _ (s : List ℕ) (n i to : ℕ) (more : i < n) (low : to ≤ i) where
             ap (λ (l : List Row). l ++ kept_ahead (rows_from s n (i + 1))) m.rows_are
             ∙ append_assoc (rows s to) (row_at s (24 * i) ∷ []) (kept_ahead (rows_from s n (i + 1)))
             ∙ ap (λ (l : List Row). rows s to ++ l) (sym is);
-        rest_is = drop_further s s' (24 * (to + 1)) (24 * (i + 1)) (omega arith) m.rest-is;
+        rest_is = drop_further s s' (24 * (to + 1)) (24 * (i + 1)) (omega arith) m.rest_is;
       }
 
 -- ---- the pass
@@ -195,18 +195,18 @@ closing_start s n =
 
 pub closing_on : (s₀ : List ℕ) (n : ℕ) (s s' : List ℕ) (to to' i : ℕ) → i < n → length s' ≡ length s → Closing s₀ n s to i → Turned s s' n i to to' → Closing s₀ n s' to' (i + 1)
 closing_on s₀ n s s' to to' i more len c t =
-    let here : rows_from s n i ≡ rows_from s₀ n i = ap (λ (l : List ℕ). rows l (n - i)) c.rest-is in
-    let rest : drop (24 * (i + 1)) s ≡ drop (24 * (i + 1)) s₀ = drop_further s₀ s (24 * i) (24 * (i + 1)) (omega arith) c.rest-is in
+    let here : rows_from s n i ≡ rows_from s₀ n i = ap (λ (l : List ℕ). rows l (n - i)) c.rest_is in
+    let rest : drop (24 * (i + 1)) s ≡ drop (24 * (i + 1)) s₀ = drop_further s₀ s (24 * i) (24 * (i + 1)) (omega arith) c.rest_is in
     let next : rows_from s n (i + 1) ≡ rows_from s₀ n (i + 1) = ap (λ (l : List ℕ). rows l (n - (i + 1))) rest in
     record {
-      number_le = t.number-le;
+      number_le = t.number_le;
       passed_le = omega arith;
       rows_are =
           ap (λ (l : List Row). rows s' to' ++ kept_ahead l) (sym next)
           ∙ t.rows_are
           ∙ ap (λ (l : List Row). rows s to ++ kept_ahead l) here
           ∙ c.rows_are;
-      rest_is = t.rest-is ∙ rest;
+      rest_is = t.rest_is ∙ rest;
       same_length = len ∙ c.same_length;
     }
 

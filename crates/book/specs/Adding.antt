@@ -11,8 +11,8 @@ use Rattle.entries.specs.Entries.{rows, Rewritten, CountsUpTo}
 use Rattle.book.specs.Path.{path_of, whole_path, listed_keys, counted_keys}
 use Rattle.book.specs.Form.{capacity, book_fits, lengths_fit, filled}
 use Rattle.book.specs.Changes.{touch_all, bump_all, EndingsListed}
-use Rattle.book.specs.Calls.{Machine, unless_refused, listed_rows, state_after, book_after, queue_with}
-use Rattle.book.specs.Batches.{next_number, with_path}
+use Rattle.book.specs.Calls.{unless_refused, listed_rows, state_after, book_after, queue_with}
+use Rattle.book.specs.Batches.{next_number}
 
 -- ---- a path
 
@@ -34,15 +34,15 @@ Outcome s s' n path limit Full = (limit < length (with_listed s n path)) × (s' 
 -- there is a place for each path of the window, and the filled ones hold paths
 pub record Leaves (t : Tracker) (queue : List ℕ) : Type 0 where
   pub places_fit : place_size * t.window ≤ length queue
-  pub lengths_fit_lem : lengths_fit queue (filled t) ≡ true
+  pub lengths_hold : lengths_fit queue (filled t) ≡ true
 
 pub record Ready (t : Tracker) (book queue path : List ℕ) : Type 0 where
-  pub book_fits_lem : book_fits book ≡ true
+  pub book_sized : book_fits book ≡ true
   pub used_fit : entry_size * t.used ≤ length book
   pub ascends : Ascends 0 (keys (rows book t.used))
   pub endings_listed : EndingsListed (rows book t.used)
   pub counts_fit : CountsUpTo (2 ^ 31) (rows book t.used)
-  pub queue_fits_lem : Leaves t queue
+  pub queue_sized : Leaves t queue
   pub path_whole : whole_path path ≡ true
   pub not_last : t.accepted < max_accepted
   pub room : length (listed_rows t book path) ≤ capacity book
@@ -51,12 +51,12 @@ pub record Ready (t : Tracker) (book queue path : List ℕ) : Type 0 where
 
 -- the form, but for counts: in memory altered by others they may pass 2 ^ 30, by no more than 64 a path
 pub record Going (t : Tracker) (book queue : List ℕ) : Type 0 where
-  pub book_fits_lem : book_fits book ≡ true
+  pub book_sized : book_fits book ≡ true
   pub used_fit : entry_size * t.used ≤ length book
   pub ascends : Ascends 0 (keys (rows book t.used))
   pub endings_listed : EndingsListed (rows book t.used)
   pub counts_fit : CountsUpTo (max_count + max_steps * t.accepted) (rows book t.used)
-  pub queue_fits_lem : Leaves t queue
+  pub queue_sized : Leaves t queue
   pub accepted_fit : t.accepted ≤ max_accepted
 
 -- the state with one more path and this many entries

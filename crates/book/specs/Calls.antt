@@ -1,9 +1,9 @@
 -- What an opening and an add answer, and what they leave in the lent book and queue. A number is a refusal's; 0 is none. A list of paths is in
 -- `Batches`, a tidy in `Tidy`. Assumes nothing.
-use Rattle.std.specs.Prelude.{◌≡◌, ℕ, zero, suc, ◌+◌, ◌-◌, ◌*◌, ◌%◌, ◌/◌, ◌^◌, ◌≤◌, ◌<◌, true, cond, ◌&&◌, List, [], ◌∷◌, ◌++◌, ltb, leb, length, drop, replicate}
+use Rattle.std.specs.Prelude.{ℕ, zero, suc, ◌+◌, ◌-◌, ◌*◌, ◌%◌, ◌/◌, cond, ◌&&◌, List, [], ◌∷◌, ◌++◌, ltb, leb, length, drop, replicate}
 use Rattle.std.proofs.Math.Option.{Option, none, some}
 use Rattle.priors.specs.Word.{word, word_bytes, store}
-use Rattle.priors.specs.Rows.{Row, keys, Ascends}
+use Rattle.priors.specs.Rows.{Row}
 use Rattle.priors.specs.Rules.{Rule, rule, first_broken}
 use Rattle.priors.specs.Refusals.{number_of}
 use Rattle.book.specs.declared.trackers.Tracker.{Tracker}
@@ -11,11 +11,11 @@ use Rattle.book.specs.declared.trackers.Opened.{Opened}
 use Rattle.book.specs.declared.trackers.Opened.TheVariants.{Fresh, Refused as NotOpened}
 use Rattle.book.specs.declared.trackers.Changed.{Changed}
 use Rattle.book.specs.declared.trackers.Changed.TheVariants.{Done, Refused as NotDone}
-use Rattle.entries.specs.Limits.{max_window, max_accepted, max_steps, entry_size, step_size, place_size}
-use Rattle.entries.specs.Entries.{rows, bytes_of, CountsUpTo}
+use Rattle.entries.specs.Limits.{max_window, max_accepted, max_steps, step_size, place_size}
+use Rattle.entries.specs.Entries.{rows, bytes_of}
 use Rattle.book.specs.Path.{Steps, steps_of, path_of, whole_path, listed_keys}
-use Rattle.book.specs.Form.{capacity, book_fits, queue_fits, lengths_fit, filled, in_form}
-use Rattle.book.specs.Changes.{touch_all, add_rows, EndingsListed}
+use Rattle.book.specs.Form.{capacity, book_fits, queue_fits, in_form}
+use Rattle.book.specs.Changes.{touch_all, add_rows}
 
 abbrev pub zeros : ℕ → List ℕ
 zeros n = replicate n 0

@@ -1,5 +1,5 @@
 -- How the rows of a book change where a path is added. Assumes nothing.
-use Rattle.std.specs.Prelude.{ℕ, ◌+◌, ◌-◌, ◌≤◌, List, [], ◌∷◌}
+use Rattle.std.specs.Prelude.{ℕ, ◌+◌, ◌-◌, List, [], ◌∷◌}
 use Rattle.std.proofs.Math.Option.{Option, none, some}
 use Rattle.priors.specs.Rows.{Row, change}
 use Rattle.entries.specs.Keys.{end_key, node_of}

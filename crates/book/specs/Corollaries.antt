@@ -102,7 +102,7 @@ pub record Told (m : Machine) (W : ℕ) (H L : List Steps) : Type 0 where
   -- a node that is not listed has no visits
   pub unlisted : (node : ℕ) → (HasRow (end_key node) (entries_of m) → ⊥) → visits W H node ≡ 0
   -- all counts together are the steps of the window part
-  pub all_counts_lem : count_sum (entries_of m) ≡ total length (window_part W H)
+  pub all_counted : count_sum (entries_of m) ≡ total length (window_part W H)
 
 -- ---- single calls, whatever there was before
 

@@ -18,7 +18,7 @@ use entries::limits::STEP_SIZE;
 use priors::addresses::rank_at;
 
 // What became of a path: the number of entries with it, or no room.
-#[derive(Drop)]
+#[derive(Clone, Copy)]
 pub enum Counted {
     Used(usize),
     Full,

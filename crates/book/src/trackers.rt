@@ -21,7 +21,7 @@ use entries::hints::{note_all, row_of};
 use entries::limits::{ENTRY_SIZE, MAX_ACCEPTED, MAX_WINDOW, PLACE_SIZE};
 use priors::refusals::{Reason, Refusal};
 
-#[derive(Drop)]
+#[derive(Clone, Copy)]
 pub struct Tracker {
     pub window: u32,
     pub used: u32,
@@ -29,21 +29,21 @@ pub struct Tracker {
 }
 
 // What an opening answers: the fresh state, or why there is none.
-#[derive(Drop)]
+#[derive(Clone, Copy)]
 pub enum Opened {
     Fresh(Tracker),
     Refused(Refusal),
 }
 
 // What an add and a tidy answer: the state that they leave, or the state as it was and why.
-#[derive(Drop)]
+#[derive(Clone, Copy)]
 pub enum Changed {
     Done(Tracker),
     Refused(Refusal, Tracker),
 }
 
 // What a list of paths answers: the state with those in it that were taken, and how many these were; and, where one was refused, why.
-#[derive(Drop)]
+#[derive(Clone, Copy)]
 pub enum Batch {
     Taken(Tracker, u32),
     Stopped(Refusal, Tracker, u32),

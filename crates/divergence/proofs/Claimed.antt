@@ -48,12 +48,12 @@ change_alike m r c a = (ap changed a.0, a.1, a.2)
 
 step_image : (r : Recount) (c : Call) → Kept r → InBytes c → Alike step recounted image Kept InBytes (image r) r c
 unfolding step recounted
-step_image r (change c) k b = change_alike (image r) r c (Opened.step-image r c k b)
+step_image r (change c) k b = change_alike (image r) r c (Opened.step_image r c k b)
 step_image r (read c) k b = (read_answer r k c, refl, k)
 
 opening_answer : (m : Machine) (r : Recount) (c : Call) → IsOpening c → (step m c).0 ≡ (recounted r c).0
 unfolding step recounted
-opening_answer m r (change c) is = ap changed (Opened.opening-answer m r c is)
+opening_answer m r (change c) is = ap changed (Opened.opening_answer m r c is)
 opening_answer m r (read c) is = absurd is
 
 -- the claim, and that what is left is within the limits
@@ -63,7 +63,7 @@ claim_kept m r first openings w book queue e cs bytes = runs_first step recounte
   where
     from : (m : Machine) (r : Recount) → AllAlike step recounted image Kept InBytes m r (change (opening w book queue) ∷ cs)
     from m r =
-        let one : Alike step recounted image Kept InBytes m r (change (opening w book queue)) = change_alike m r (opening w book queue) (Opened.accepted-opening m r w book queue e) in
+        let one : Alike step recounted image Kept InBytes m r (change (opening w book queue)) = change_alike m r (opening w book queue) (Opened.accepted_opening m r w book queue e) in
         runs_after step recounted image Kept InBytes step_image m r (change (opening w book queue)) one cs
         (runs_image step recounted image Kept InBytes step_image (recounted r (change (opening w book queue))).1 cs one.2 bytes)
 

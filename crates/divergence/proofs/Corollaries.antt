@@ -77,9 +77,9 @@ memory_to_the_entry L whole ranks number = (
       let number' : length L' ≤ 16777216 = rw (order_length o) number in
       let same : least L' ≡ least L = order_least o ranks in
       let plain = only_adds n L' m cs a in (
-        λ l. let s = serves m a.window a.book a.queue n a.window-le a.queue-serves some most a.book-size L' whole' ranks' number' (omega arith) in
+        λ l. let s = serves m a.window a.book a.queue n a.window_le a.queue_serves some most a.book_length L' whole' ranks' number' (omega arith) in
             (rw plain.0 s.0, ap (λ (t : Machine). t.state.used) plain.1 ∙ s.1 ∙ same),
-        λ l. rw plain.0 (lacks m a.window a.book a.queue n a.window-le a.queue-serves some most a.book-size L' whole' ranks' number' (omega arith)),
+        λ l. rw plain.0 (lacks m a.window a.book a.queue n a.window_le a.queue_serves some most a.book_length L' whole' ranks' number' (omega arith)),
       ),
 )
 
@@ -87,7 +87,7 @@ memory_to_the_entry L whole ranks number = (
 
 totals : (r : Recount) → Kept r → TotalsAreVisits (image r) r.window r.paths
 totals r k a =
-    let listed = (book-told r k).node-listed a in
+    let listed = (book-told r k).node_listed a in
     (λ h. rw (nodes_are r k) (evidence_visits r.window r.paths (since r) (since_ends r k) (since_ranks r k) a (listed.0 h)), λ h. rw (nodes_are r k) (evidence_missing r.window r.paths (since r) (since_ends r k) (since_ranks r k) a (λ s. h (listed.1 s))))
 
 pub corollary : Corollary
@@ -108,8 +108,8 @@ corollary m first openings w book queue e cs bytes =
       rw (alike.1, W-is, H-is) (totals last alike.2),
       λ c. ap (λ (n : Machine). (step n (read c)).0) alike.1 ∙ read_answer last alike.2 c ∙ known last c _ _ _ W-is H-is L-is,
       rw alike.0 (never_nine none all),
-      rw L-is (omega (arith, listing_least (since last) (since_ranks last alike.2), alike.2.listed_le, alike.2.sizes.book-le)),
-      rw H-is (memory_to_the_entry last.paths alike.2.whole alike.2.ranks alike.2.paths-le),
+      rw L-is (omega (arith, listing_least (since last) (since_ranks last alike.2), alike.2.listed_le, alike.2.sizes.book_le)),
+      rw H-is (memory_to_the_entry last.paths alike.2.whole alike.2.ranks alike.2.paths_le),
     )
   where
     known : (r : Recount) (c : ReadingCall) (W : ℕ) (H L : List Steps) → W ≡ r.window → H ≡ r.paths → L ≡ since r → (recounted r (read c)).0 ≡ reading (recount_seen W H L) c

@@ -33,6 +33,10 @@ cross_sum A B E D a b p q =
 add_values : (f : Format) (x y : Float) (a b : ℕ) → HasValue x false a 1 → HasValue y false b 1 → add f x y ≡ round f false (a + b) 1
 unfolding add
 add_values f (fin true m e) y a b p q = absurd (true≢false p.0)
+add_values f lib.Ieee.nan y a b p q = elim p [ ]
+add_values f (lib.Ieee.inf _) y a b p q = elim p [ ]
+add_values f (fin false m e) lib.Ieee.nan a b p q = elim q [ ]
+add_values f (fin false m e) (lib.Ieee.inf _) a b p q = elim q [ ]
 add_values f (fin false m e) (fin true n d) a b p q = absurd (true≢false q.0)
 add_values f (fin false m e) (fin false n d) a b p q =
     round_same f false (m * up e * down d + n * up d * down e) (down e * down d) (a + b) 1 (mul-pos (down_pos e) (down_pos d)) (zero-lt-suc 0)

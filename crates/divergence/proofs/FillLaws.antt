@@ -54,7 +54,7 @@ module _ (nodes : List ℕ) (layer rank : ℕ) where
 module _ (nodes children : List ℕ) (layer : ℕ) (book : List ℕ) where
   pub priors_next : (i to used : ℕ) → Next book i to used → with_prior nodes children layer (nodes_from book i used) ≡ has_prior (prior_of nodes children layer (node_at book i)) + with_prior nodes children layer (nodes_from book to used)
   unfolding with_prior
-  priors_next i to used n = ap (with_prior nodes children layer) n.nodes-are
+  priors_next i to used n = ap (with_prior nodes children layer) n.nodes_are
 
   pub priors_end : (i used : ℕ) → used ≤ i → with_prior nodes children layer (nodes_from book i used) ≡ 0
   unfolding with_prior listed_nodes spread
@@ -182,7 +182,7 @@ module _ (G D : List Float) (nodes children : List ℕ) (layer : ℕ) where
   places_number (n ∷ ns) h =
       let prior = prior_of nodes children layer n.address in
       let on = put_on n.address (node_divergence G D prior n.evidence) (walk G D nodes children layer ns) h in
-      omega (arith, prior_needed n.address prior n.evidence (walk G D nodes children layer ns) h, places_number ns on.goes_on, on.places-are)
+      omega (arith, prior_needed n.address prior n.evidence (walk G D nodes children layer ns) h, places_number ns on.goes_on, on.places_are)
 
 pub prior_le : (o : Option Counts) → has_prior o ≤ 1
 prior_le none = omega arith
@@ -218,32 +218,32 @@ module _ (whole : Walk) (addresses₀ : List ℕ) (figures₀ : List Float) wher
       one = put_on node x rest sofar.unstopped
 
       pub room_addresses : 8 * (f.places + needed x) ≤ length addresses
-      room_addresses = omega (arith, one.places-are, sofar.places-left, sofar.addresses-long)
+      room_addresses = omega (arith, one.places_are, sofar.places_left, sofar.addresses_long)
 
       pub room_figures : f.places + needed x ≤ length figures
-      room_figures = omega (arith, one.places-are, sofar.places-left, sofar.figures-long)
+      room_figures = omega (arith, one.places_are, sofar.places_left, sofar.figures_long)
 
       pub filled_next : FilledTo whole rest addresses₀ (put_address addresses f.places node x) figures₀ (put_figure figures f.places x) (filling_of f x)
       filled_next = record {
         unstopped = one.goes_on;
-        places_left = omega (arith, filling_places f x, one.places-are, sofar.places-left);
-        skipped_left = omega (arith, filling_skipped f x, skips_on node x rest sofar.unstopped, sofar.skipped-left);
-        addresses_long = put_address_length addresses f.places node x room_addresses ∙ sofar.addresses-long;
-        figures_long = put_figure_length figures f.places x ∙ sofar.figures-long;
-        addresses_left = ap (λ (n : ℕ). store (put_address addresses f.places node x) (8 * n) (flat_map address_bytes (ranks_of (places_of rest)))) (filling_places f x) ∙ one.addresses-are addresses f.places (omega (arith, sofar.places-left, sofar.addresses-long)) ∙ sofar.addresses-left;
-        figures_left = ap (λ (n : ℕ). filled_from n (values_of (places_of rest)) (put_figure figures f.places x)) (filling_places f x) ∙ one.figures-are figures f.places (omega (arith, sofar.places-left, sofar.figures-long)) ∙ sofar.figures-left;
+        places_left = omega (arith, filling_places f x, one.places_are, sofar.places_left);
+        skipped_left = omega (arith, filling_skipped f x, skips_on node x rest sofar.unstopped, sofar.skipped_left);
+        addresses_long = put_address_length addresses f.places node x room_addresses ∙ sofar.addresses_long;
+        figures_long = put_figure_length figures f.places x ∙ sofar.figures_long;
+        addresses_left = ap (λ (n : ℕ). store (put_address addresses f.places node x) (8 * n) (flat_map address_bytes (ranks_of (places_of rest)))) (filling_places f x) ∙ one.addresses_are addresses f.places (omega (arith, sofar.places_left, sofar.addresses_long)) ∙ sofar.addresses_left;
+        figures_left = ap (λ (n : ℕ). filled_from n (values_of (places_of rest)) (put_figure figures f.places x)) (filling_places f x) ∙ one.figures_are figures f.places (omega (arith, sofar.places_left, sofar.figures_long)) ∙ sofar.figures_left;
       }
 
     module _ (sofar : FilledTo whole (walked [] 0) addresses₀ addresses figures₀ figures f) where
       pub end_skipped : f.skipped ≡ skipped_of whole
-      end_skipped = sym (add-zero f.skipped) ∙ sofar.skipped-left
+      end_skipped = sym (add-zero f.skipped) ∙ sofar.skipped_left
 
       pub end_addresses : addresses ≡ filled_addresses (ranks_of (places_of whole)) addresses₀
       unfolding flat_map
-      end_addresses = sym (addresses_end addresses (8 * f.places)) ∙ sofar.addresses-left ∙ addresses_start addresses₀ (ranks_of (places_of whole))
+      end_addresses = sym (addresses_end addresses (8 * f.places)) ∙ sofar.addresses_left ∙ addresses_start addresses₀ (ranks_of (places_of whole))
 
       pub end_figures : figures ≡ filled_figures (values_of (places_of whole)) figures₀
-      end_figures = sym (figures_end figures f.places) ∙ sofar.figures-left ∙ figures_start figures₀ (values_of (places_of whole))
+      end_figures = sym (figures_end figures f.places) ∙ sofar.figures_left ∙ figures_start figures₀ (values_of (places_of whole))
 
 -- ---- the answer, by the passes
 

@@ -187,14 +187,14 @@ module _ (lnGamma digamma : Float → Float) (G D : List Float) (g : Tabled lnGa
         let has = neither (is_none o) (lacks_child p.children es) h in
         let a = prior_count o in
         rw (float_found e.key p.children, is_found o has.0)
-        (rw (term_whole (total p) s a e.count positive.total-positive l (child_positive p positive e.key has.0) (omega (arith, count_le e.key p.children)))
+        (rw (term_whole (total p) s a e.count positive.total_positive l (child_positive p positive e.key has.0) (omega (arith, count_le e.key p.children)))
         (terms_whole (term G D (total p) s a e.count) es has.1 (omega arith)))
 
     pub kl_whole : (e : Counts) → lacks_child p.children e.children ≡ false → total p + total e < length G
         → goko_kl lnGamma digamma (float_counts p) (float_counts e) ≡ some (divergence G D p e)
     unfolding goko_kl divergence
     kl_whole e h k =
-        let t = positive.total-positive in
+        let t = positive.total_positive in
         rw (
           total_whole p (omega arith),
           total_whole e (omega arith),

@@ -138,11 +138,11 @@ vector_some c h l = vector_whole c l ∙ ap (λ (b : Bool). cond b (some (vector
 posterior_given : (o e : Option Counts) → Sound o → ((x : Counts) → e ≡ some x → total x ≤ most) → map vector_of (prob_vector o e) ≡ goko_prob_vector o e
 unfolding prob_vector goko_prob_vector posterior
 posterior_given none e sound light = refl
-posterior_given (some p) none sound light = sym (vector_some p (sound.positive p refl).total-positive (omega (arith, sound.fits p refl)))
+posterior_given (some p) none sound light = sym (vector_some p (sound.positive p refl).total_positive (omega (arith, sound.fits p refl)))
 posterior_given (some p) (some e) sound light =
     let l : total p + total e ≤ 2 ^ 53 = omega (arith, sound.fits p refl, light e refl) in
     let is = posterior_total p e in
-    let t = (sound.positive p refl).total-positive in
+    let t = (sound.positive p refl).total_positive in
     sym (ap float_vector (evidence_whole p e l) ∙ vector_some (posterior p (some e)) (omega arith) (omega arith))
 
 evidence_given : (e : Option Counts) → ((x : Counts) → e ≡ some x → total x ≤ most) → map vector_of (evidence_prob_vector e) ≡ goko_evidence_vector e
@@ -365,10 +365,10 @@ module _ (t : Tracker) (book queue : List ℕ) (priors : LentPriors) (nb : All (
     kl_told rank h =
         let a = passes (of_listed G D priors.nodes priors.children (layer_of priors.floor) rank (evidence_of rank listed)) h in
         a.is
-        ∙ listed_given lnGamma digamma G D g d a.tables-pass priors.nodes priors.children (layer_of priors.floor) (sound a.priors-pass) rank (evidence_of rank listed) (found a.form-pass rank) a.not-refused
+        ∙ listed_given lnGamma digamma G D g d a.tables_pass priors.nodes priors.children (layer_of priors.floor) (sound a.priors_pass) rank (evidence_of rank listed) (found a.form_pass rank) a.not_refused
 
     walk_told : {X : Type 0} (r : Reading X) → Passed r → WalkGiven list (walk G D priors.nodes priors.children (layer_of priors.floor) listed)
-    walk_told r a = walk_given lnGamma digamma G D g d a.tables-pass priors.nodes priors.children (layer_of priors.floor) (sound a.priors-pass) listed (light a.form-pass)
+    walk_told r a = walk_given lnGamma digamma G D g d a.tables_pass priors.nodes priors.children (layer_of priors.floor) (sound a.priors_pass) listed (light a.form_pass)
 
     all_told : (o : Output) → reading_number (all_reading form G D priors.nodes priors.children (layer_of priors.floor) listed (room_in o)) ≡ 0
         → (x : Divergences) × (list ≡ some x) × (all_telling o (all_reading form G D priors.nodes priors.children (layer_of priors.floor) listed (room_in o)) ≡ all_telling o (answered x))
@@ -377,7 +377,7 @@ module _ (t : Tracker) (book queue : List ℕ) (priors : LentPriors) (nb : All (
         let w = walk G D priors.nodes priors.children (layer_of priors.floor) listed in
         let r = fitting (with_prior priors.nodes priors.children (layer_of priors.floor) listed) (room_in o) (walk_reading w) in
         let a = passes r h in
-        let f = fitted (with_prior priors.nodes priors.children (layer_of priors.floor) listed) (room_in o) (walk_reading w) a.not-refused in
+        let f = fitted (with_prior priors.nodes priors.children (layer_of priors.floor) listed) (room_in o) (walk_reading w) a.not_refused in
         let x = walk_told r a (sym (walk_number_lem w) ∙ f.1) in
         (x.0, x.1, ap (all_telling o) (a.is ∙ f.0 ∙ ap walk_reading x.2))
 
@@ -388,7 +388,7 @@ module _ (t : Tracker) (book queue : List ℕ) (priors : LentPriors) (nb : All (
         let w = walk G D priors.nodes priors.children (layer_of priors.floor) listed in
         let len = sequence_len t in
         let a = passes (stats_reading_of len w) h in
-        let x = walk_told (stats_reading_of len w) a (sym (stats_number len w) ∙ a.not-refused) in
+        let x = walk_told (stats_reading_of len w) a (sym (stats_number len w) ∙ a.not_refused) in
         (x.0, x.1, a.is ∙ ap (stats_reading_of len) x.2 ∙ stats_given_lem t x.0)
 
     -- ---- refused by 14

@@ -44,7 +44,7 @@ child_positive p positive k h = go (count_of k p.children) refl h
   where
     go : (o : Option ℕ) → count_of k p.children ≡ o → is_none o ≡ false → 0 < prior_count o
     go none e h = let z : ◌≡◌ {A = ℕ} 0 1 = cc in absurd (omega arith)
-    go (some c) e h = positive.count-positive k c e
+    go (some c) e h = positive.count_positive k c e
 
 pub neither : (a b : Bool) → a || b ≡ false → (a ≡ false) × (b ≡ false)
 neither true b h = let z : ◌≡◌ {A = ℕ} 0 1 = cc in absurd (omega arith)
@@ -73,14 +73,14 @@ module _ (g g' d d' : Float) (G D : List Float) where
     same_children s (e ∷ es) h =
         let a = prior_count (count_of e.key p.children) in
         let has = neither (is_none (count_of e.key p.children)) (lacks_child p.children es) h in
-        rw (same_term (total p) s a e.count positive.total-positive (child_positive p positive e.key has.0))
+        rw (same_term (total p) s a e.count positive.total_positive (child_positive p positive e.key has.0))
         (same_children (term (g' ∷ G) (d' ∷ D) (total p) s a e.count) es has.1)
 
     same_divergence : (e : Counts) → lacks_child p.children e.children ≡ false → divergence (g ∷ G) (d ∷ D) p e ≡ divergence (g' ∷ G) (d' ∷ D) p e
     unfolding divergence closed
     same_divergence e h =
         let T = total p in
-        let t = positive.total-positive in
+        let t = positive.total_positive in
         rw (
           same_at g g' G T t,
           same_at g g' G (T + total e) (omega arith),

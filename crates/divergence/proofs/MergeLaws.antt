@@ -87,42 +87,42 @@ module _ (children : List ℕ) (link : ℕ) (book : List ℕ) (at end : ℕ) (re
     entries_are = entries_step book at end left ∙ ap (λ (r : Row). r ∷ child_entries book (at + 1) end) (sym is)
 
     ascend_after : Ascends (suc child.rank) (keys (child_entries book (at + 1) end))
-    ascend_after = (rw entries_are at ready.children-ascend).1
+    ascend_after = (rw entries_are at ready.children_ascend).1
 
     after_entry : (on : ℕ) → on ≤ record_count children → Mergeable children on book (at + 1) end
     after_entry on fits = record {
-      links-rise = ready.links-rise;
+      links_rise = ready.links_rise;
       link_fits = fits;
-      place-fits = omega arith;
+      place_fits = omega arith;
       entries_fit = ready.entries_fit;
-      children-ascend = ascends_from 0 (suc child.rank) (keys (child_entries book (at + 1) end)) (omega arith) ascend_after;
+      children_ascend = ascends_from 0 (suc child.rank) (keys (child_entries book (at + 1) end)) (omega arith) ascend_after;
     }
 
   -- the chain's first record, and what is asked of the chain after it
   module _ (more : 0 < link) (prior : Record) (is : prior ≡ record_at children (link - 1)) where
     chain_is : children_of children link ≡ row prior.rank prior.count ∷ children_of children prior.link
-    chain_is = rw is (rows_step children ready.links-rise link more ready.link_fits)
+    chain_is = rw is (rows_step children ready.links_rise link more ready.link_fits)
 
     next_fits : prior.link ≤ record_count children
-    next_fits = rw is (next_small children ready.links-rise (link - 1) (omega (arith, ready.link_fits)))
+    next_fits = rw is (next_small children ready.links_rise (link - 1) (omega (arith, ready.link_fits)))
 
     after_record : Mergeable children prior.link book at end
     after_record = record {
-      links-rise = ready.links-rise;
+      links_rise = ready.links_rise;
       link_fits = next_fits;
-      place-fits = ready.place-fits;
+      place_fits = ready.place_fits;
       entries_fit = ready.entries_fit;
-      children-ascend = ready.children-ascend;
+      children_ascend = ready.children_ascend;
     }
 
   no_chain : link ≡ 0 → children_of children link ≡ []
-  no_chain gone = ap (children_of children) gone ∙ rows_end children ready.links-rise
+  no_chain gone = ap (children_of children) gone ∙ rows_end children ready.links_rise
 
   pub only_entry : link ≡ 0 → at < end → (child : Child) → row child.rank child.count ≡ child_row (row_at book (24 * at)) → child.count < 2 ^ 32
       → FirstMerged children link book at end (of_entry child link at)
   unfolding merged_from
   only_entry gone left child is small = record {
-    first-is = rw (no_chain gone, entries_are left child is) (evidence_last (row child.rank child.count) (child_entries book (at + 1) end) (ascend_after left child is));
+    first_is = rw (no_chain gone, entries_are left child is) (evidence_last (row child.rank child.count) (child_entries book (at + 1) end) (ascend_after left child is));
     count_small = omega arith;
     goes_on = after_entry left child is link ready.link_fits;
   }
@@ -131,7 +131,7 @@ module _ (children : List ℕ) (link : ℕ) (book : List ℕ) (at end : ℕ) (re
       → FirstMerged children link book at end (of_record prior at)
   unfolding merged_from with_evidence
   only_record more gone prior is small = record {
-    first-is = rw (entries_end book at end gone, chain_is more prior is);
+    first_is = rw (entries_end book at end gone, chain_is more prior is);
     count_small = omega arith;
     goes_on = after_record more prior is;
   }
@@ -141,7 +141,7 @@ module _ (children : List ℕ) (link : ℕ) (book : List ℕ) (at end : ℕ) (re
         → FirstMerged children link book at end (of_record prior at)
     unfolding merged_from
     record_lower l small = record {
-      first-is = rw (entries_are left child child-is, chain_is more prior prior-is) (prior_first (row child.rank child.count) (child_entries book (at + 1) end) (ascend_after left child child-is) (row prior.rank prior.count) (children_of children prior.link) l);
+      first_is = rw (entries_are left child child-is, chain_is more prior prior-is) (prior_first (row child.rank child.count) (child_entries book (at + 1) end) (ascend_after left child child-is) (row prior.rank prior.count) (children_of children prior.link) l);
       count_small = omega arith;
       goes_on = after_record more prior prior-is;
     }
@@ -150,7 +150,7 @@ module _ (children : List ℕ) (link : ℕ) (book : List ℕ) (at end : ℕ) (re
         → FirstMerged children link book at end (of_entry child link at)
     unfolding merged_from
     entry_lower l small = record {
-      first-is = rw (entries_are left child child-is, chain_is more prior prior-is) (evidence_first (row child.rank child.count) (child_entries book (at + 1) end) (ascend_after left child child-is) (row prior.rank prior.count) (children_of children prior.link) l);
+      first_is = rw (entries_are left child child-is, chain_is more prior prior-is) (evidence_first (row child.rank child.count) (child_entries book (at + 1) end) (ascend_after left child child-is) (row prior.rank prior.count) (children_of children prior.link) l);
       count_small = omega arith;
       goes_on = after_entry left child child-is link ready.link_fits;
     }
@@ -159,7 +159,7 @@ module _ (children : List ℕ) (link : ℕ) (book : List ℕ) (at end : ℕ) (re
         → FirstMerged children link book at end (record { rank = prior.rank; count = prior.count + child.count; link = prior.link; at = at + 1 })
     unfolding merged_from
     same_child q small few = record {
-      first-is = rw (entries_are left child child-is, chain_is more prior prior-is) (both_first (row child.rank child.count) (child_entries book (at + 1) end) (ascend_after left child child-is) (row prior.rank prior.count) (children_of children prior.link) q);
+      first_is = rw (entries_are left child child-is, chain_is more prior prior-is) (both_first (row child.rank child.count) (child_entries book (at + 1) end) (ascend_after left child child-is) (row prior.rank prior.count) (children_of children prior.link) q);
       count_small = omega arith;
       goes_on = after_entry left child child-is prior.link (next_fits more prior prior-is);
     }

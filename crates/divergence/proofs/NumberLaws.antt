@@ -36,24 +36,24 @@ priors_not nodes children layer = is_not (priors_refusal nodes children layer) (
 
 -- a reading that is not refused with 9
 record Other {X : Type 0} (r : Reading X) : Type 0 where
-  not_nine_lem : Not9 (reading_number r)
+  is_not_nine : Not9 (reading_number r)
 
 unless_other : {X : Type 0} {n : ℕ} {r : Reading X} → Not9 n → Other r → Other (unless n r)
 unless_other {n = zero} h i = i
-unless_other {n = suc n} h i = record { not_nine_lem = h }
+unless_other {n = suc n} h i = record { is_not_nine = h }
 
 fitting_other : {X : Type 0} (places have : ℕ) {r : Reading X} → Other r → Other (fitting places have r)
 fitting_other places have {r} h = go (ltb have places)
   where
     go : (b : Bool) → Other (cond b (refused 13 none) r)
-    go true = record { not_nine_lem = λ e. omega arith }
+    go true = record { is_not_nine = λ e. omega arith }
     go false = h
 
 answered_other : {X : Type 0} (x : X) → Other (answered x)
-answered_other x = record { not_nine_lem = λ e. omega arith }
+answered_other x = record { is_not_nine = λ e. omega arith }
 
 nothing_other : {X : Type 0} → Other {X = X} nothing
-nothing_other = record { not_nine_lem = λ e. omega arith }
+nothing_other = record { is_not_nine = λ e. omega arith }
 
 vector_other : (have : ℕ) (o : Option Counts) → Other (vector_reading have o)
 vector_other have none = nothing_other
@@ -62,8 +62,8 @@ vector_other have (some c) = fitting_other (length c.children) have (answered_ot
 divergence_other : (rank : ℕ) (d : NodeDivergence) → Other (divergence_reading rank d)
 divergence_other rank (Value x) = answered_other x
 divergence_other rank NoPrior = nothing_other
-divergence_other rank MissingChild = record { not_nine_lem = λ e. omega arith }
-divergence_other rank PastTable = record { not_nine_lem = λ e. omega arith }
+divergence_other rank MissingChild = record { is_not_nine = λ e. omega arith }
+divergence_other rank PastTable = record { is_not_nine = λ e. omega arith }
 
 listed_other : (G D : List Float) (nodes children : List ℕ) (layer rank : ℕ) (o : Option Counts) → Other (of_listed G D nodes children layer rank o)
 listed_other G D nodes children layer rank none = nothing_other
@@ -105,16 +105,16 @@ walk_not G D nodes children layer (n ∷ ns) =
     visited_not n.address (node_divergence G D (prior_of nodes children layer n.address) n.evidence) (walk G D nodes children layer ns) (walk_not G D nodes children layer ns)
 
 walked_other : (w : Walk) → Not9 (walk_number w) → Other (walk_reading w)
-walked_other w h = record { not_nine_lem = rw (walk_number_lem w) h }
+walked_other w h = record { is_not_nine = rw (walk_number_lem w) h }
 
 stats_other : (len : ℕ) (w : Walk) → Not9 (walk_number w) → Other (stats_reading_of len w)
-stats_other len w h = record { not_nine_lem = rw (stats_number len w) h }
+stats_other len w h = record { is_not_nine = rw (stats_number len w) h }
 
 -- ---- the readings, of a tracker in form
 
 -- what stands in the result has the same number
 mapped_other : {X Y : Type 0} (part : X → Y) {r : Reading X} → Other r → Other (mapped part r)
-mapped_other part {r = refused n node} h = record { not_nine_lem = h.not-nine }
+mapped_other part {r = refused n node} h = record { is_not_nine = h.is_not_nine }
 mapped_other part {r = nothing} h = nothing_other
 mapped_other part {r = answered x} h = answered_other (part x)
 
@@ -144,8 +144,8 @@ div_stats_other G D nodes children layer ns len =
 pub reading_not_nine : (W : ℕ) (H L : List Steps) (c : ReadingCall) → answer_number (reading (recount_seen W H L) c) ≡ 9 → other_form c ≡ 9
 unfolding reading
 reading_not_nine W H L (prob_vector p scale point o) e =
-    absurd ((mapped_other vector (mapped_other _ (prob_other p.nodes p.children (layer_of p.floor) (recount_nodes W H L) (rank_of scale point) (room_in o)))).not-nine e)
-reading_not_nine W H L (evidence_prob_vector scale point o) e = absurd ((mapped_other vector (mapped_other _ (evidence_other (recount_nodes W H L) (rank_of scale point) (room_in o)))).not-nine e)
-reading_not_nine W H L (posterior_kl_divergence t p scale point) e = absurd ((mapped_other kl (kl_other t.G t.D p.nodes p.children (layer_of p.floor) (recount_nodes W H L) (rank_of scale point))).not-nine e)
-reading_not_nine W H L (all_node_kl t p o) e = absurd ((mapped_other all_kl (mapped_other _ (all_other t.G t.D p.nodes p.children (layer_of p.floor) (recount_nodes W H L) (room_in o)))).not-nine e)
-reading_not_nine W H L (kl_div_stats t p) e = absurd ((mapped_other stats (div_stats_other t.G t.D p.nodes p.children (layer_of p.floor) (recount_nodes W H L) (sequence_length W H))).not-nine e)
+    absurd ((mapped_other vector (mapped_other _ (prob_other p.nodes p.children (layer_of p.floor) (recount_nodes W H L) (rank_of scale point) (room_in o)))).is_not_nine e)
+reading_not_nine W H L (evidence_prob_vector scale point o) e = absurd ((mapped_other vector (mapped_other _ (evidence_other (recount_nodes W H L) (rank_of scale point) (room_in o)))).is_not_nine e)
+reading_not_nine W H L (posterior_kl_divergence t p scale point) e = absurd ((mapped_other kl (kl_other t.G t.D p.nodes p.children (layer_of p.floor) (recount_nodes W H L) (rank_of scale point))).is_not_nine e)
+reading_not_nine W H L (all_node_kl t p o) e = absurd ((mapped_other all_kl (mapped_other _ (all_other t.G t.D p.nodes p.children (layer_of p.floor) (recount_nodes W H L) (room_in o)))).is_not_nine e)
+reading_not_nine W H L (kl_div_stats t p) e = absurd ((mapped_other stats (div_stats_other t.G t.D p.nodes p.children (layer_of p.floor) (recount_nodes W H L) (sequence_length W H))).is_not_nine e)

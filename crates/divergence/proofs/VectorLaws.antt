@@ -41,16 +41,16 @@ module _ (children : List ℕ) (rise : every_child children (next_link_fits chil
   pub listed_mergeable : {used rank i to : ℕ} → Usable book used → ListedAt book used rank i to → Mergeable children link book (i + 1) to
   unfolding child_entries
   listed_mergeable usable at = record {
-    links-rise = rise;
+    links_rise = rise;
     link_fits = fits;
-    place-fits = omega (arith, at.place-first);
-    entries_fit = omega (arith, usable.lent, at.place-fits);
-    children-ascend = at.children-ascend;
+    place_fits = omega (arith, at.place_first);
+    entries_fit = omega (arith, usable.lent, at.place_fits);
+    children_ascend = at.children_ascend;
   }
 
   pub unlisted_mergeable : Mergeable children link book 0 0
   unfolding child_entries rows
-  unlisted_mergeable = record { links-rise = rise; link_fits = fits; place-fits = omega arith; entries_fit = omega arith; children-ascend = tt }
+  unlisted_mergeable = record { links_rise = rise; link_fits = fits; place_fits = omega arith; entries_fit = omega arith; children_ascend = tt }
 
 pub posterior_listed : (children book : List ℕ) (n : Record) (i to : ℕ) → posterior (prior_of_node children n) (some (evidence_at book i to)) ≡ merged_counts (n.count + entry_count_at book i) children n.link book (i + 1) to
 unfolding posterior merged_from child_entries

@@ -244,7 +244,7 @@ module _ (G D : List Float) (nodes children : List ℕ) (layer : ℕ) (book : Li
 
   pub walk_next : (i to used : ℕ) → Next book i to used → walk_from i used ≡ visited (node_at book i) (divergence_at i to) (walk_from to used)
   unfolding walk
-  walk_next i to used n = ap (walk G D nodes children layer) n.nodes-are
+  walk_next i to used n = ap (walk G D nodes children layer) n.nodes_are
 
   pub walk_end : (i used : ℕ) → used ≤ i → walk_from i used ≡ walked [] 0
   unfolding walk listed_nodes spread

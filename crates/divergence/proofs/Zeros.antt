@@ -188,10 +188,10 @@ noted_clear s x h k = go (lt tiny64 x)
   where
     go : (b : Bool) → ClearStats (cond b (counted s x) s)
     go true = record {
-      max_is = clear_cond (lt s.max x) x s.max k h.max-is;
-      min_is = clear_cond (lt x s.min) x s.min k h.min-is;
+      max_is = clear_cond (lt s.max x) x s.max k h.max_is;
+      min_is = clear_cond (lt x s.min) x s.min k h.min_is;
       sum_is = clear_left s.moment1_nz x h.sum_is k.0;
-      squares_are = clear_left s.moment2_nz (fmul x x) h.squares-are (mul-fits binary64 x x);
+      squares_are = clear_left s.moment2_nz (fmul x x) h.squares_are (mul-fits binary64 x x);
     }
     go false = h
 
@@ -250,7 +250,7 @@ walk_stats sequence_length (stopped n node) h = tt
 walk_stats sequence_length (walked ps k) h =
     let none : ClearStats (no_stats sequence_length) = record { max_is = min_clear; min_is = max_clear; sum_is = zero_clear; squares_are = zero_clear } in
     let c = stats_clear (no_stats sequence_length) ps none h in
-    (c.max-is.1, (c.min-is.1, (c.sum_is.1, (c.squares-are.1, tt))))
+    (c.max_is.1, (c.min_is.1, (c.sum_is.1, (c.squares_are.1, tt))))
 
 module _ (s : Seen) (t : LentTables) (p : LentPriors) (rank : ℕ) (o : Output) where
   one_told : ToldWithout figure_of (kl_asked s t p rank)

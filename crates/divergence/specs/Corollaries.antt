@@ -43,7 +43,7 @@ WithoutReadings =
 
 -- an answer's refusal; 0 for none
 abbrev pub reading_number : {X : Type 0} → Reading X → ℕ
-reading_number (refused n node) = n
+reading_number (refused n at) = n
 reading_number nothing = 0
 reading_number (answered x) = 0
 
@@ -75,7 +75,7 @@ pub record Adds (n : ℕ) (P : List Steps) (calls : List Call) : Type 0 where
   pub queue : List ℕ
   pub window_le : window ≤ 1024
   pub queue_serves : 516 * window ≤ length queue
-  pub book_size_lem : length book ≡ 24 * n
+  pub book_length : length book ≡ 24 * n
   pub changes : changes_of calls ≡ opening window book queue ∷ adds P
 
 -- the numbers that they are answered

@@ -4,7 +4,6 @@ use Rattle.std.specs.Prelude.{ℕ, ◌+◌, ◌*◌, ◌/◌, min, cond, List, [
 use mathlib.Core.List.{flat_map}
 use Rattle.std.proofs.Math.Option.{Option, none, some}
 use Rattle.priors.specs.Address.{address_of, address_bytes}
-use Rattle.priors.specs.declared.addresses.Address.{Address}
 use Rattle.priors.specs.Rows.{keys}
 use Rattle.priors.specs.Tables.{tables_refusal}
 use Rattle.priors.specs.Priors.{Counts, total, prior_of, priors_refusal}

@@ -41,7 +41,7 @@ NoProbabilityIsMinusZero = (count whole : ℕ) → NotMinusZero (figure count wh
 
 -- of an answer these figures are told
 abbrev pub ToldWithout : {X : Type 0} → (X → List Float) → Reading X → Type 0
-ToldWithout figures (refused n node) = Unit {0}
+ToldWithout figures (refused n at) = Unit {0}
 ToldWithout figures nothing = Unit {0}
 ToldWithout figures (answered x) = All NotMinusZero (figures x)
 

@@ -18,7 +18,7 @@ use priors::lookups::{ChildFound, NodeFound, find_child, find_node, prior_total}
 use priors::records::Record;
 use priors::words::read_u32;
 
-#[derive(Drop)]
+#[derive(Clone, Copy)]
 pub enum NodeDivergence {
     Value(f64),
     NoPrior,
@@ -27,7 +27,7 @@ pub enum NodeDivergence {
 }
 
 // What a node is tested for; one that fits has its record, its prior total and its total.
-#[derive(Drop)]
+#[derive(Clone, Copy)]
 pub enum NodeFit {
     Fits(Record, u64, u64),
     NoRecord,

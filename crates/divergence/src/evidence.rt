@@ -9,7 +9,7 @@ use entries::entries::{Found, find};
 use entries::keys::ending;
 
 // The place of a node's ending and the place where its children end.
-#[derive(Drop)]
+#[derive(Clone, Copy)]
 pub enum Listed {
     Entries(usize, usize),
     Unlisted,

@@ -18,7 +18,7 @@ use priors::lookups::{NodeFound, find_node};
 use priors::refusals::{Checked, NodeReason, Refusal};
 
 // Places filled and nodes skipped so far.
-#[derive(Drop)]
+#[derive(Clone, Copy)]
 pub struct Filling {
     pub places: usize,
     pub skipped: u32,

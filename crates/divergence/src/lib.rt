@@ -1,5 +1,7 @@
 // Readings of a tracker against lent priors and tables: probabilities, divergences and their statistics. They change nothing but
 // the lent outputs.
+#![tactic(auto)]
+
 pub mod answers; // what each reading answers
 pub mod sums; // the three sums of a divergence
 pub mod nodes; // a book's entries as nodes

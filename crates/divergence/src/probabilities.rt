@@ -19,14 +19,14 @@ use priors::words::read_u32;
 use std::num::nearest_u64_to_f64;
 
 // A child in an entry of the book.
-#[derive(Drop)]
+#[derive(Clone, Copy)]
 pub struct Child {
     pub rank: u64,
     pub count: u32,
 }
 
 // The first child of a merge, and the link and the place where the merge goes on.
-#[derive(Drop)]
+#[derive(Clone, Copy)]
 pub struct Merged {
     pub rank: u64,
     pub count: u64,
@@ -35,7 +35,7 @@ pub struct Merged {
 }
 
 // How many children a merge has, and the sum of their counts.
-#[derive(Drop)]
+#[derive(Clone, Copy)]
 pub struct Size {
     pub places: usize,
     pub sum: u64,

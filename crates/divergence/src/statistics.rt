@@ -17,7 +17,7 @@ use entries::limits::ENTRY_SIZE;
 use priors::addresses::{address_of, rank_at};
 use priors::refusals::{NodeReason, Refusal};
 
-#[derive(Drop)]
+#[derive(Clone, Copy)]
 pub struct KLDivergenceStats {
     pub max: f64,
     pub min: f64,
@@ -28,14 +28,14 @@ pub struct KLDivergenceStats {
 }
 
 // The statistics so far, and the number of nodes skipped.
-#[derive(Drop)]
+#[derive(Clone, Copy)]
 pub struct Tally {
     pub stats: KLDivergenceStats,
     pub skipped: u32,
 }
 
 // A tally after one more node, or the refusal that ends it.
-#[derive(Drop)]
+#[derive(Clone, Copy)]
 pub enum Tallied {
     On(Tally),
     Stopped(Refusal),

@@ -3,7 +3,7 @@ ghost use Rattle.std.specs.Prelude.{◌≡◌, ◌+◌, ◌<◌, length};
 ghost use Rattle.priors.specs.Tables.{table_at};
 ghost use Rattle.divergence.specs.Divergence.{no_sums, term, ending_term, no_less, closed};
 
-#[derive(Drop)]
+#[derive(Clone, Copy)]
 pub struct Sums {
     pub mine: f64,
     pub other: f64,

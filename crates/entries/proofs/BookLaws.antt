@@ -76,14 +76,14 @@ module _ (s : List ℕ) (n k i : ℕ) (fits : 24 * n ≤ length s) where
         record {
           number_is = sym (ap length is ∙ simp length-set len);
           rows_are = rows_counted s i v (omega (arith, at_lt)) h n at_lt ∙ sym is;
-          rest-is = rest_counted s i v (omega (arith, at_lt)) n at_lt;
+          rest_is = rest_counted s i v (omega (arith, at_lt)) n at_lt;
         }
 
     -- the row is there and stays
     pub touched_at : Rewritten s s n (touch k (rows s n))
     touched_at =
         let is : touch k (rows s n) ≡ rows s n = touch_found k (get_or (rows s n) i blank).count (rows s n) (look_spot k found) in
-        record { number_is = sym (ap length is ∙ len); rows_are = sym is; rest-is = refl }
+        record { number_is = sym (ap length is ∙ len); rows_are = sym is; rest_is = refl }
 
   module _ (missing : Spot k (rows s n) i false) where
     pub missing_le : i ≤ n
@@ -101,14 +101,14 @@ module _ (s : List ℕ) (n k i : ℕ) (fits : 24 * n ≤ length s) where
       changed_in range room = record {
         number_is = sym length_in;
         rows_are = rows_with s n i (row k c) missing_le room range ∙ sym comes_in;
-        rest-is = rest_with s n i (row k c) missing_le room;
+        rest_is = rest_with s n i (row k c) missing_le room;
       }
 
     -- a missing row is passed over
     pub passed_over : (step : ℕ → ℕ) → Rewritten s s n (change none step k (rows s n))
     passed_over step =
         let is : change none step k (rows s n) ≡ rows s n = change_spot none step k missing ∙ take-append-drop i (rows s n) in
-        record { number_is = sym (ap length is ∙ len); rows_are = sym is; rest-is = refl }
+        record { number_is = sym (ap length is ∙ len); rows_are = sym is; rest_is = refl }
 
 -- ---- counts
 

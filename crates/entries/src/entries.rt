@@ -12,7 +12,7 @@ use priors::addresses::{rank_at, write_rank};
 use priors::words::{read_u32, write_u32};
 
 // Where a key stands: at a place, or missing, with the place where it would go.
-#[derive(Drop)]
+#[derive(Clone, Copy)]
 pub enum Found {
     At(usize),
     Missing(usize),

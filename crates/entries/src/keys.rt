@@ -2,7 +2,7 @@
 ghost use Rattle.std.specs.Prelude.{◌≡◌, eqb};
 ghost use Rattle.entries.specs.Keys.{end_key, child_key, key_value};
 
-#[derive(Drop)]
+#[derive(Clone, Copy)]
 pub struct Key {
     pub node: u64,
     pub kind: u32,

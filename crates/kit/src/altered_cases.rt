@@ -10,7 +10,7 @@ use priors::refusals::number;
 const MAGIC: u32 = 826363988;
 
 // An add's number, 0 if it is taken, and the state afterwards.
-#[derive(Drop)]
+#[derive(Clone, Copy)]
 pub struct Answer {
     pub number: u32,
     pub tracker: Tracker,

@@ -7,7 +7,7 @@ use book::trackers::{Opened, Tracker};
 use priors::refusals::number;
 
 // An opening and the number that it gets.
-#[derive(Drop)]
+#[derive(Clone, Copy)]
 struct Opening {
     window: u32,
     book_len: usize,

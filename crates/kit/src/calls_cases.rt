@@ -12,7 +12,7 @@ pub const CALLS: u32 = 826495060;
 pub const LARGE: u32 = 827084884;
 
 // The tracker as it stands, how much of the buffers it was lent, the place of the next call, and whether all agreed so far.
-#[derive(Drop)]
+#[derive(Clone, Copy)]
 pub struct Play {
     pub tracker: Tracker,
     pub book_len: usize,

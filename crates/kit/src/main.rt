@@ -1,5 +1,7 @@
 // Replays the recorded sample in data/ and runs the boundary inputs on the compiled code. Each line printed is a count of cases and
 // of those that came out otherwise than recorded.
+#![tactic(auto)]
+
 mod tape; // a recorded file as words
 mod figures; // f64 in words
 mod numbers; // numbers in words

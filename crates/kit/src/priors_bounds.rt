@@ -19,7 +19,7 @@ const HIGHEST: f64 = 1099511627776.0;
 const BEYOND: f64 = 1099511627776.000244140625;
 
 // A prior record: an address by its scale's bits and its point, a count, a link.
-#[derive(Drop)]
+#[derive(Clone, Copy)]
 struct Prior {
     bits: u32,
     point: u32,

@@ -19,7 +19,7 @@ const MAGIC: u32 = 827347028;
 const LOOKUP_WORDS: usize = 10;
 
 // What a look-up finds; zeros for what is not there.
-#[derive(Drop)]
+#[derive(Clone, Copy)]
 struct Looked {
     is_node: u32,
     singleton: u32,

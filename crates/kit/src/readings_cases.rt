@@ -17,7 +17,7 @@ pub const TIDIES: u32 = 827936852;
 pub const BATCHES: u32 = 826429524;
 
 // The play, and the places of the tables and of the priors that readings are lent.
-#[derive(Drop)]
+#[derive(Clone, Copy)]
 struct Lending {
     play: Play,
     tables: usize,

@@ -1,5 +1,5 @@
 // How many cases were tried, and how many of them came out otherwise than they should.
-#[derive(Drop)]
+#[derive(Clone, Copy)]
 pub struct Tally {
     pub cases: u32,
     pub differ: u32,

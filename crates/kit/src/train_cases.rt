@@ -8,7 +8,7 @@ use crate::tape::{after_bytes, after_figures, after_numbers, bytes_at, forward, 
 use baseline::training::{Trained, train};
 
 // The places of a training's arguments and of its answer.
-#[derive(Drop)]
+#[derive(Clone, Copy)]
 struct Training {
     g: usize,
     d: usize,

@@ -136,7 +136,7 @@ pub prior_is : PriorIsThatFound
 unfolding prior_of
 prior_is nodes children layer rank passed =
     let ok = accepted nodes children layer passed in (
-      λ i l e. ap (map (prior_of_node children)) (found_one nodes layer rank ok.records-fit.ordered ok.apart i l e),
+      λ i l e. ap (map (prior_of_node children)) (found_one nodes layer rank ok.records_fit.ordered ok.apart i l e),
       λ h. ap (map (prior_of_node children)) (found_no nodes layer rank h),
     )
 
@@ -146,7 +146,7 @@ shared_point nodes layer = (points_apart nodes layer, points_differ_lem nodes la
 pub one_record : OneFound
 one_record nodes children layer rank i j passed l m p q =
     let ok = accepted nodes children layer passed in
-    one_found nodes layer ok.records-fit.ordered ok.apart rank i j l m p q
+    one_found nodes layer ok.records_fit.ordered ok.apart rank i j l m p q
 
 -- ---- the least floor
 

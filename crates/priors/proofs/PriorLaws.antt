@@ -75,7 +75,7 @@ module _ (nodes children : List ℕ) (layer : ℕ) where
   -- where they have none, 22 decides
   pub points_last : Recorded nodes children → priors_refusal nodes children layer ≡ cond (points_differ nodes layer) 0 22
   unfolding priors_refusal
-  points_last ok = rw (ok.whole, ok.children-whole, ok.ordered, ok.firsts, ok.rising, ok.lengths, ok.ascending, ok.counts, ok.totals)
+  points_last ok = rw (ok.whole, ok.children_whole, ok.ordered, ok.firsts, ok.rising, ok.lengths, ok.ascending, ok.counts, ok.totals)
 
 -- what accepted priors have
 pub record Accepted (nodes children : List ℕ) (layer : ℕ) : Type 0 where
@@ -134,9 +134,9 @@ module _ (nodes children : List ℕ) (layer : ℕ) (ok : Accepted nodes children
   pub found_fits : (k : ℕ) (r : Record) → find_record layer k (records nodes) ≡ some r → ChainFits children r
   unfolding first_link_fits chain_fits chain_ascends
   found_fits k r h = record {
-    link_fits = leb-true r.link (record_count children) (found_keeps nodes (λ n. leb n.link (record_count children)) ok.records-fit.firsts layer k r h);
-    short = leb-true (length (chain_of children r.link)) max_chain (found_keeps nodes (λ n. leb (length (chain_of children n.link)) max_chain) ok.records-fit.lengths layer k r h);
-    ascending = found_keeps nodes (λ n. ascends (chain_of children n.link)) ok.records-fit.ascending layer k r h;
+    link_fits = leb-true r.link (record_count children) (found_keeps nodes (λ n. leb n.link (record_count children)) ok.records_fit.firsts layer k r h);
+    short = leb-true (length (chain_of children r.link)) max_chain (found_keeps nodes (λ n. leb (length (chain_of children n.link)) max_chain) ok.records_fit.lengths layer k r h);
+    ascending = found_keeps nodes (λ n. ascends (chain_of children n.link)) ok.records_fit.ascending layer k r h;
   }
 
   -- the records of a chain keep 7
@@ -145,12 +145,12 @@ module _ (nodes children : List ℕ) (layer : ℕ) (ok : Accepted nodes children
   chain_positive zero link l k c h = let z : ◌≡◌ {A = ℕ} 0 1 = cc in absurd (omega arith)
   chain_positive (suc n) zero l k c h = let z : ◌≡◌ {A = ℕ} 0 1 = cc in absurd (omega arith)
   chain_positive (suc n) (suc i) l k c h =
-      go (eqb (record_at children i).rank k) h (chain_positive n (record_at children i).link (next_small children ok.records-fit.rising i (omega arith)) k c)
+      go (eqb (record_at children i).rank k) h (chain_positive n (record_at children i).link (next_small children ok.records_fit.rising i (omega arith)) k c)
     where
       go : {rest : Option ℕ} (b : Bool) → cond b (some (record_at children i).count) rest ≡ some c → (rest ≡ some c → 0 < c) → 0 < c
       go true h on =
           let e : (record_at children i).count ≡ c = cc in
-          rw e at (ltb-true 0 (record_at children i).count (all_at (record_count_fits children) (record_count children) i ok.records-fit.counts (omega arith)))
+          rw e at (ltb-true 0 (record_at children i).count (all_at (record_count_fits children) (record_count children) i ok.records_fit.counts (omega arith)))
       go false h on = on h
 
   pub prior_positive : (k : ℕ) (p : Counts) → prior_of nodes children layer k ≡ some p → Positive p
@@ -163,7 +163,7 @@ module _ (nodes children : List ℕ) (layer : ℕ) (ok : Accepted nodes children
           let is : prior_of_node children r ≡ p = cc in
           rw (← is)
           (record {
-            total_positive = ltb-true 0 (total (prior_of_node children r)) (found_keeps nodes (λ n. ltb 0 (total (prior_of_node children n))) ok.records-fit.totals layer k r e);
+            total_positive = ltb-true 0 (total (prior_of_node children r)) (found_keeps nodes (λ n. ltb 0 (total (prior_of_node children n))) ok.records_fit.totals layer k r e);
             count_positive = chain_positive (record_count children) r.link (found_fits k r e).link_fits;
           })
 

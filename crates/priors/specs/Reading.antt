@@ -11,13 +11,13 @@ pub data Reading (X : Type 0) : Type 0 where
 
 -- a part of an answer, or what stood there before
 abbrev pub written : {X Y : Type 0} → (X → Y) → Reading X → Y → Y
-written part (refused n node) before = before
+written part (refused n at) before = before
 written part nothing before = before
 written part (answered x) before = part x
 
 -- a part of an answer as an answer
 abbrev pub mapped : {X Y : Type 0} → (X → Y) → Reading X → Reading Y
-mapped part (refused n node) = refused n node
+mapped part (refused n at) = refused n at
 mapped part nothing = nothing
 mapped part (answered x) = answered (part x)
 

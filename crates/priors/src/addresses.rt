@@ -10,7 +10,7 @@ ghost use Rattle.priors.specs.Priors.{layer_of};
 
 use crate::words::{read_u32, write_u32};
 
-#[derive(Drop)]
+#[derive(Clone, Copy)]
 pub struct Address {
     pub scale: i32,
     pub point: u32,

@@ -10,7 +10,7 @@ use crate::checks::check_priors;
 use crate::lookups::{ChildFound, ChildLookup, NodeFound, find_child, find_node};
 use crate::refusals::{Checked, Refusal};
 
-#[derive(Drop)]
+#[derive(Clone, Copy)]
 pub enum ChildAnswer {
     Looked(ChildLookup),
     NotLooked(Refusal),

@@ -1,4 +1,6 @@
 // Addresses, tables and priors: what the layers above look up and never change.
+#![tactic(auto)]
+
 pub mod words; // 32-bit fields in lent bytes
 pub mod addresses; // addresses and their ranks
 pub mod refusals; // every refusal of the watch, by its number

@@ -11,20 +11,20 @@ ghost use Rattle.priors.specs.Children.{reads_of};
 use crate::places::{first_from, halve};
 use crate::records::{RECORD_SIZE, Record, record_at};
 
-#[derive(Drop)]
+#[derive(Clone, Copy)]
 pub enum NodeFound {
     Node(Record),
     NoNode,
 }
 
-#[derive(Drop)]
+#[derive(Clone, Copy)]
 pub enum ChildFound {
     Count(u32),
     NoChild,
 }
 
 // What the look-up of a child found, and how many records of the chain it read.
-#[derive(Drop)]
+#[derive(Clone, Copy)]
 pub struct ChildLookup {
     pub found: ChildFound,
     pub read: u32,

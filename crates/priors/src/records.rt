@@ -9,7 +9,7 @@ use crate::words::read_u32;
 
 pub const RECORD_SIZE: usize = 16;
 
-#[derive(Drop)]
+#[derive(Clone, Copy)]
 pub struct Record {
     pub rank: u64,
     pub count: u32,

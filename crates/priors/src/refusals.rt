@@ -5,13 +5,13 @@ ghost use Rattle.priors.specs.Refusals.{reason_number, node_reason_number, numbe
 
 use crate::addresses::Address;
 
-#[derive(Drop)]
+#[derive(Clone, Copy)]
 pub enum Refusal {
     Plain(Reason),
     AtNode(NodeReason, Address),
 }
 
-#[derive(Drop)]
+#[derive(Clone, Copy)]
 pub enum Reason {
     TableLengths,
     TableEntry,
@@ -32,14 +32,14 @@ pub enum Reason {
     SharedPoint,
 }
 
-#[derive(Drop)]
+#[derive(Clone, Copy)]
 pub enum NodeReason {
     MissingChild,
     PastTable,
 }
 
 // What a check of lent input finds.
-#[derive(Drop)]
+#[derive(Clone, Copy)]
 pub enum Checked {
     Passed,
     Refused(Refusal),

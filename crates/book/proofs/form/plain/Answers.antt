@@ -1,0 +1,44 @@
+-- The key's fields and the count decide; each return has the tests that led to it.
+-- Assumes nothing.
+use mathlib.Core.Path.{◌≡◌}
+use mathlib.Core.Bool.{◌&&◌, ◌||◌}
+use Prim.Native.Nat.{◌^◌}
+use native.Mathlib.Omega.{arith}
+use lib.Dec.{leb, eqb}
+use borrow.Author.Tests.{le-leb, lt-leb, eq-eqb, ne_eqb}
+use Rattle.priors.specs.Address.{rank, lift}
+use Rattle.priors.specs.Rows.{row}
+use Rattle.entries.specs.Limits.{max_count}
+use Rattle.entries.specs.Keys.{key_value, no_child}
+use Rattle.book.specs.Form.{plain}
+use Rattle.book.proofs.FormLaws.{plain_is}
+use Rattle.book.proofs.form.plain.Goals as goal
+
+pub returns-then-key-gt1 : goal.returns-then-key-gt1
+returns-then-key-gt1 c =
+    let by_fields : (let k = c.args.key in
+    plain (row (key_value k) c.args.count) ≡ leb k.kind 1 && (leb c.args.count max_count && (eqb k.kind 1 || eqb k.child no_child))) =
+    plain_is c.args.key (omega arith) (omega arith) c.args.count in
+    rw (by_fields, lt-leb c.args.key.kind 1 (omega arith))
+
+pub returns-then-count-gt-MAX_COUNT : goal.returns-then-count-gt-MAX_COUNT
+returns-then-count-gt-MAX_COUNT c =
+    let by_fields : (let k = c.args.key in
+    plain (row (key_value k) c.args.count) ≡ leb k.kind 1 && (leb c.args.count max_count && (eqb k.kind 1 || eqb k.child no_child))) =
+    plain_is c.args.key (omega arith) (omega arith) c.args.count in
+    rw (by_fields, le-leb c.args.key.kind 1 (omega arith), lt-leb c.args.count (2 ^ 30) (omega arith))
+
+pub returns-then-key-eq1 : goal.returns-then-key-eq1
+returns-then-key-eq1 c =
+    let by_fields : (let k = c.args.key in
+    plain (row (key_value k) c.args.count) ≡ leb k.kind 1 && (leb c.args.count max_count && (eqb k.kind 1 || eqb k.child no_child))) =
+    plain_is c.args.key (omega arith) (omega arith) c.args.count in
+    rw (by_fields, le-leb c.args.key.kind 1 (omega arith), le-leb c.args.count (2 ^ 30) (omega arith), eq-eqb c.args.key.kind 1 (omega arith))
+
+pub returns : goal.returns
+unfolding rank lift
+returns c =
+    let by_fields : (let k = c.args.key in
+    plain (row (key_value k) c.args.count) ≡ leb k.kind 1 && (leb c.args.count max_count && (eqb k.kind 1 || eqb k.child no_child))) =
+    plain_is c.args.key (omega arith) (omega arith) c.args.count in
+    rw (by_fields, le-leb c.args.key.kind 1 (omega arith), le-leb c.args.count (2 ^ 30) (omega arith), ne_eqb c.args.key.kind 1 (λ e. omega arith))

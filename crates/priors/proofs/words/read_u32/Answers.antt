@@ -1,0 +1,6 @@
+use Rattle.priors.specs.Word.{word}
+use Rattle.priors.proofs.words.read_u32.Goals as goal
+
+pub returns : goal.returns
+unfolding word
+returns c = c.join.ensures
