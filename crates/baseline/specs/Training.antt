@@ -169,12 +169,12 @@ book_left zero book = zeros (length book)
 book_left (suc n) book = book
 
 abbrev pub knots_left : ℕ → ℕ → ℕ → Until (List (List KLDivergenceStats)) → List ℕ → List ℕ
-knots_left zero count rate (stopped n node) knots = zeros (length knots)
+knots_left zero count rate (stopped n at) knots = zeros (length knots)
 knots_left zero count rate (reached rss) knots = knot_lengths count rate ++ drop count knots
 knots_left (suc n) count rate u knots = knots
 
 abbrev pub values_left : ℕ → ℕ → Until (List (List KLDivergenceStats)) → List Float → List Float
-values_left zero count (stopped n node) values = replicate (length values) zero64
+values_left zero count (stopped n at) values = replicate (length values) zero64
 values_left zero count (reached rss) values = add_all rss (started count values)
 values_left (suc n) count u values = values
 

@@ -22,117 +22,120 @@ mod training_cases; // training.bin
 mod book_bounds; // openings and adds at the ends of their rules
 
 use crate::tape::part;
+use std::{fs, io};
 
-// Reads a file whole into a buffer; what is read is its first bytes. No file reads as no bytes.
-fn read_file(name: &[u8], buffer: &mut [u8]) -> usize {
-    let file = os::open_read(name);
-    if file < 0 {
-        return 0;
-    }
-    let n = io::read_full(file, buffer);
-    libc::close(file);
-    n
+fn priors(rt: &HostRuntime) -> io::Result<()> {
+    let tape = fs::read(rt, "priors.bin")?;
+    priors_cases::replay(part(&tape, 0, 32768)).print(rt, "priors")?;
+    priors_bounds::run().print(rt, "priors at their bounds")?;
+    Ok(())
 }
 
-fn priors() {
-    let mut tape = [0u8; 32768];
-    let n = read_file(b"priors.bin", &mut tape);
-    priors_cases::replay(part(&tape, 0, n)).print(b"priors");
-    priors_bounds::run().print(b"priors at their bounds");
-}
-
-fn calls() {
-    let mut tape = [0u8; 65536];
-    let n = read_file(b"calls.bin", &mut tape);
+fn calls(rt: &HostRuntime) -> io::Result<()> {
+    let tape = fs::read(rt, "calls.bin")?;
     let mut book = [0u8; 1536];
     let mut queue = [0u8; 4644];
-    calls_cases::replay(part(&tape, 0, n), calls_cases::CALLS, &mut book, &mut queue).print(
-        b"calls",
-    );
+    calls_cases::replay(
+        part(&tape, 0, 65536),
+        calls_cases::CALLS,
+        &mut book,
+        &mut queue,
+    )
+    .print(rt, "calls")?;
+    Ok(())
 }
 
-fn large_calls() {
-    let mut tape = [0u8; 16384];
-    let n = read_file(b"large.bin", &mut tape);
+fn large_calls(rt: &HostRuntime) -> io::Result<()> {
+    let tape = fs::read(rt, "large.bin")?;
     let mut book = [0u8; 393240];
-    let mut queue = [0u8; 528384];
-    calls_cases::replay(part(&tape, 0, n), calls_cases::LARGE, &mut book, &mut queue).print(
-        b"large calls",
-    );
+    let mut queue = vec![in rt.alloc(); 0u8; 528384]?;
+    calls_cases::replay(
+        part(&tape, 0, 16384),
+        calls_cases::LARGE,
+        &mut book,
+        &mut queue,
+    )
+    .print(rt, "large calls")?;
+    Ok(())
 }
 
-fn altered() {
-    let mut tape = [0u8; 65536];
-    let n = read_file(b"altered.bin", &mut tape);
+fn altered(rt: &HostRuntime) -> io::Result<()> {
+    let tape = fs::read(rt, "altered.bin")?;
     let mut book = [0u8; 1536];
     let mut queue = [0u8; 4644];
-    altered_cases::replay(part(&tape, 0, n), &mut book, &mut queue).print(b"altered memory");
+    altered_cases::replay(part(&tape, 0, 65536), &mut book, &mut queue).print(
+        rt,
+        "altered memory",
+    )?;
+    Ok(())
 }
 
-fn openings() {
+fn openings(rt: &HostRuntime) -> io::Result<()> {
     let mut book = [0u8; 393240];
-    let mut queue = [0u8; 528384];
-    book_bounds::openings(&mut book, &mut queue).print(b"openings at their bounds");
-    book_bounds::paths().print(b"paths at their bounds");
+    let mut queue = vec![in rt.alloc(); 0u8; 528384]?;
+    book_bounds::openings(&mut book, &mut queue).print(rt, "openings at their bounds")?;
+    book_bounds::paths().print(rt, "paths at their bounds")?;
+    Ok(())
 }
 
-fn readings() {
-    let mut tape = [0u8; 131072];
-    let n = read_file(b"readings.bin", &mut tape);
+fn readings(rt: &HostRuntime) -> io::Result<()> {
+    let tape = fs::read(rt, "readings.bin")?;
     let mut book = [0u8; 1536];
     let mut queue = [0u8; 4644];
     readings_cases::replay(
-        part(&tape, 0, n),
+        part(&tape, 0, 131072),
         readings_cases::READINGS,
         &mut book,
         &mut queue,
     )
-    .print(b"readings");
+    .print(rt, "readings")?;
+    Ok(())
 }
 
-fn tidies() {
-    let mut tape = [0u8; 65536];
-    let n = read_file(b"tidies.bin", &mut tape);
+fn tidies(rt: &HostRuntime) -> io::Result<()> {
+    let tape = fs::read(rt, "tidies.bin")?;
     let mut book = [0u8; 1536];
     let mut queue = [0u8; 4644];
     readings_cases::replay(
-        part(&tape, 0, n),
+        part(&tape, 0, 65536),
         readings_cases::TIDIES,
         &mut book,
         &mut queue,
     )
-    .print(b"tidies");
+    .print(rt, "tidies")?;
+    Ok(())
 }
 
-fn batches() {
-    let mut tape = [0u8; 65536];
-    let n = read_file(b"batches.bin", &mut tape);
+fn batches(rt: &HostRuntime) -> io::Result<()> {
+    let tape = fs::read(rt, "batches.bin")?;
     let mut book = [0u8; 1536];
     let mut queue = [0u8; 4644];
     readings_cases::replay(
-        part(&tape, 0, n),
+        part(&tape, 0, 65536),
         readings_cases::BATCHES,
         &mut book,
         &mut queue,
     )
-    .print(b"batches");
+    .print(rt, "batches")?;
+    Ok(())
 }
 
-fn training() {
-    let mut tape = [0u8; 81920];
-    let n = read_file(b"training.bin", &mut tape);
-    training_cases::replay(part(&tape, 0, n)).print(b"training");
+fn training(rt: &HostRuntime) -> io::Result<()> {
+    let tape = fs::read(rt, "training.bin")?;
+    training_cases::replay(part(&tape, 0, 81920)).print(rt, "training")?;
+    Ok(())
 }
 
-fn main() {
-    figures::compared().print(b"figures");
-    priors();
-    calls();
-    large_calls();
-    altered();
-    readings();
-    tidies();
-    batches();
-    training();
-    openings();
+fn main(rt: HostRuntime) -> io::Result<()> {
+    figures::compared().print(&rt, "figures")?;
+    priors(&rt)?;
+    calls(&rt)?;
+    large_calls(&rt)?;
+    altered(&rt)?;
+    readings(&rt)?;
+    tidies(&rt)?;
+    batches(&rt)?;
+    training(&rt)?;
+    openings(&rt)?;
+    Ok(())
 }

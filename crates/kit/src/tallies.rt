@@ -1,3 +1,5 @@
+use std::io;
+
 // How many cases were tried, and how many of them came out otherwise than they should.
 #[derive(Clone, Copy)]
 pub struct Tally {
@@ -34,12 +36,9 @@ impl Tally {
     }
 
     // Prints the tally on a line of its own, after a name.
-    pub fn print(self, name: &[u8]) {
-        io::write_all(1, name);
-        io::write_all(1, b": ");
-        io::print_decimal(1, self.cases as u64);
-        io::write_all(1, b" cases, ");
-        io::print_decimal(1, self.differ as u64);
-        io::write_all(1, b" differ\n");
+    pub fn print(self, rt: &impl Print, name: &str) -> io::Result<()> {
+        let cases = self.cases;
+        let differ = self.differ;
+        println!(rt; "{name}: {cases} cases, {differ} differ")
     }
 }

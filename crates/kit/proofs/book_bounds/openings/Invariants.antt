@@ -1,0 +1,12 @@
+-- `kit::book_bounds::openings` is safe and ends: book and queue keep their lengths, and the openings that are left grow fewer. Assumes nothing.
+use borrow.Author.Rules.{rules}
+use mathlib.Core.Path.{◌≡◌}
+use Prim.Native.Nat.{◌-◌}
+use lib.ListN.{length}
+use Rattle.kit.proofs.book_bounds.openings.Given as goal
+
+abbrev pub invariant-loop-i : goal.invariant-loop-i
+invariant-loop-i l = (length l.book ≡ length l.initial.book) × (length l.queue ≡ length l.initial.queue)
+
+abbrev pub decreases-loop-i : goal.decreases-loop-i
+decreases-loop-i l = 10 - l.i

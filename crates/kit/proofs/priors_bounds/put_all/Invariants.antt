@@ -1,0 +1,12 @@
+-- `kit::priors_bounds::put_all` is safe and ends: the slice keeps its length, and the records that are left grow fewer. Assumes nothing.
+use mathlib.Core.Path.{◌≡◌}
+use borrow.Author.Rules.{rules}
+use Prim.Native.Nat.{◌-◌}
+use lib.ListN.{length}
+use Rattle.kit.proofs.priors_bounds.put_all.Given as goal
+
+abbrev pub invariant-loop-i : goal.invariant-loop-i
+invariant-loop-i l = length l.s ≡ length l.initial.s
+
+abbrev pub decreases-loop-i : goal.decreases-loop-i
+decreases-loop-i l = l.n - l.i
