@@ -33,6 +33,7 @@ archive_crates() {
         { sub(/#.*/, "") }
         /:/ {
             name = substr($0, 1, index($0, ":") - 1)
+            sub(/staticlib/, "", name)
             gsub(/[ \t]/, "", name)
             needs[name] = substr($0, index($0, ":") + 1)
         }

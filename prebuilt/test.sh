@@ -25,12 +25,12 @@ if [ -e "$CALLS.fails" ]; then
     done
     exit 1
 fi
-mkdir -p target/staticlib
-echo built >target/staticlib/libexports.a
-for crate in priors entries book divergence baseline; do
-    echo "rt: $crate proved (1 s)"
+mkdir -p out
+echo built >out/libexports.a
+for crate in priors entries book divergence baseline exports; do
+    echo "crate $crate: modules loaded=1 checked=1"
+    echo "logic=proved functions=1"
 done
-echo 'rt: target/staticlib/libexports.a has the functions'
 END
 chmod +x "$work/with-rt/rt"
 export CALLS=$work/calls
@@ -59,13 +59,13 @@ prebuilt=$(realpath .)/prebuilt/x86_64-linux/libteakpool.a
 built=$(realpath .)/target/staticlib/libteakpool.a
 
 with_rt prebuilt/update >"$work/recorded"
-expect "an update proves" "rt staticlib exports" "$(calls)"
+expect "an update proves" "rt lib" "$(calls)"
 expect "an update puts the archive here" "built" "$(cat "$prebuilt")"
 expect "an update records the toolchain" "toolchain a toolchain for tests" "$(tail -n 1 "$work/recorded")"
 expect "a line for each crate" "7" "$(grep -c . "$work/said")"
-expect "the last crate's line" "teakpool: 6 of 6: exports proved and built" "$(tail -n 1 "$work/said")"
+expect "the last crate's line" "teakpool: 6 of 6: exports proved" "$(tail -n 1 "$work/said")"
 with_rt prebuilt/check >"$work/checked" || expect "a check of what was just put here" "a pass" "$(cat "$work/said")"
-expect "a check proves" "rt staticlib exports" "$(calls)"
+expect "a check proves" "rt lib" "$(calls)"
 rm -rf target
 
 # Each comparison of a check decides alone: what is spoiled here, all the others pass.
@@ -122,12 +122,12 @@ for crate in $made_of; do
         hash_changes "$first is gone"
         mv "$work/kept" "$first"
     done
-    sed -i.whole "s/^$crate:.*/& priors/" crates.txt
+    sed -i.whole "s/^$crate\( staticlib\)*:.*/& priors/" crates.txt
     hash_changes "another line for $crate"
     mv crates.txt.whole crates.txt
 
     # A crate without its line, or without a folder, is not passed over.
-    sed -i.whole "/^$crate:/d" crates.txt
+    sed -i.whole "/^$crate\( staticlib\)*:/d" crates.txt
     expect "no line for $crate: no hash" "failed" "$(hash_now)"
     expect "no line for $crate: what is said" "1" "$(grep -c "crates.txt has no line for $crate," "$work/said")"
     for script in build check update; do
@@ -162,7 +162,7 @@ change() { # WHAT FILE TEXT
     expect "$1, without rt" "$prebuilt" "$(without_rt prebuilt/archive)"
     expect "$1, without rt: a line says so" "1" "$(grep -c 'the sources have changed' "$work/said")"
     expect "$1, with rt" "$built" "$(with_rt prebuilt/archive)"
-    expect "$1, with rt: it is proved" "rt staticlib exports" "$(calls)"
+    expect "$1, with rt: it is proved" "rt lib" "$(calls)"
     expect "$1, with rt, again" "$built" "$(with_rt prebuilt/archive)"
     expect "$1, with rt, again: it is not proved again" "" "$(calls)"
     if with_rt prebuilt/check >"$work/checked"; then
@@ -173,7 +173,7 @@ change() { # WHAT FILE TEXT
 }
 change "a changed source" crates/exports/src/lib.rt '// a remark'
 change "a changed definition" crates/priors/specs/Lib.antt '-- a remark'
-change "a changed list of crates" crates.txt 'exports: priors book'
+change "a changed list of crates" crates.txt 'exports staticlib: priors book'
 
 echo '// a remark' >>crates/exports/src/lib.rt
 touch "$CALLS.fails"

@@ -10,7 +10,7 @@ pub use Rattle.divergence.specs.Readings.{written}
 
 -- 0 for an answer, 100 for none, else the refusal's number
 abbrev pub code : {X : Type 0} → Reading X → ℕ
-code (refused n node) = n
+code (refused n at) = n
 code nothing = 100
 code (answered x) = 0
 
