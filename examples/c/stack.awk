@@ -49,11 +49,16 @@ BEGIN {
     at[0] = $1
 }
 
-# A frame of many pages is taken a page at a time, each touched, down to a mark that lies so many pages below. The `sub` of one page is
-# counted already.
-code[0] == "cmp %r11,%rsp" && code[1] == "movq $0x0,(%rsp)" && code[2] == "sub $0x1000,%rsp" && code[4] == "mov %rsp,%r11" &&
-    code[3] ~ /^sub \$0x[0-9a-f]*[1-9a-f][0-9a-f]*000,%r11$/ {
-    own[name] += number(substr(code[3], 8, length(code[3]) - 12)) - PAGE
+# A large frame is taken a step of at most a page at a time, each touched, down to a mark that lies so many steps below. The `sub` of one
+# step is counted already.
+code[0] == "cmp %r11,%rsp" && code[1] == "movq $0x0,(%rsp)" && code[2] ~ /^sub \$0x[0-9a-f]+,%rsp$/ && code[4] == "mov %rsp,%r11" &&
+    code[3] ~ /^sub \$0x[0-9a-f]+,%r11$/ {
+    step = number(substr(code[2], 8, length(code[2]) - 12))
+    whole = number(substr(code[3], 8, length(code[3]) - 12))
+    if (step == 0 || step > PAGE || whole == 0 || whole % step != 0) {
+        refuse($0)
+    }
+    own[name] += whole - step
     page = at[2]
     next
 }

@@ -60,7 +60,7 @@ pages="$one\n   0:\tmov    %rsp,%r11\n   3:\tsub    \$0x18000,%r11\n   a:\tsub  
 pages="$pages  19:\tcmp    %r11,%rsp\n  1c:\tjne    a <teakpool_one+0xa>"
 for code in '' "$one\n   0:\tmov    %rax,%rsp" "$one\n   0:\tcall   *%rax" "$one\n   0:\tcall   5 <teakpool_one+0x5>\n   5:\tret" \
     "$one\n   0:\tjmp    *%rax" "$one\n   0:\tcall   5\n\t\t1: R_X86_64_PLT32\tteakpool_one-0x4" "${pages/0x18000/0x18010}" \
-    "${pages/0x18000/0x0000}" "${pages/0x1000,/0x2000,}" "${pages/mov    /lea    }" "${pages/jne    a/jne    3}" "${pages/jne/je}"; do
+    "${pages/0x18000/0x0000}" "${pages/0x1000,/0x2000,}" "${pages/0x1000,/0x900,}" "${pages/mov    /lea    }" "${pages/jne    a/jne    3}" "${pages/jne/je}"; do
     ! printf '%b\n' "$code" | awk -f examples/c/stack.awk >"$work/told" 2>&1 || not_noticed "'$code'"
 done
 expected="$((8 + 8 + 32 + 8 + 16 + 128)) teakpool_one"
@@ -68,6 +68,8 @@ measured=$(printf '%b\n' "$one\n   0:\tpush   %rbx\n   1:\tsub    \$0x20,%rsp\n 
     '0000000000000000 <two>:\n   0:\tsub    $0x10,%rsp' | awk -f examples/c/stack.awk)
 [ "$measured" = "$expected" ] || { echo "stack: '$measured' is measured, and not '$expected'" && exit 1; }
 expected="$((8 + 0x18000 + 0xa8 + 128)) teakpool_one"
-measured=$(printf '%b\n' "$pages\n  1e:\tsub    \$0xa8,%rsp" | awk -f examples/c/stack.awk)
-[ "$measured" = "$expected" ] || { echo "stack: '$measured' is measured, and not '$expected'" && exit 1; }
+for steps in "$pages" "${pages/0x1000,/0xc00,}"; do
+    measured=$(printf '%b\n' "$steps\n  1e:\tsub    \$0xa8,%rsp" | awk -f examples/c/stack.awk)
+    [ "$measured" = "$expected" ] || { echo "stack: '$measured' is measured, and not '$expected'" && exit 1; }
+done
 echo "stack: no call takes more than the header states"

@@ -22,51 +22,67 @@ mod training_cases; // training.bin
 mod book_bounds; // openings and adds at the ends of their rules
 
 use crate::tape::part;
+use std::io::Read;
 use std::{fs, io};
 
+// Reads until the buffer is full, the file ends or a read fails.
+fn read_full(file: &mut impl Read, buffer: &mut [u8]) -> usize {
+    let mut n = 0;
+    while n < buffer.len() {
+        match file.read(&mut buffer[n..]) {
+            Ok(0) => return n,
+            Ok(k) => n += k,
+            Err(_) => return n,
+        }
+    }
+    n
+}
+
+// Reads a file whole into a buffer; what is read is its first bytes. No file reads as no bytes.
+fn read_file(rt: &HostRuntime, name: &str, buffer: &mut [u8]) -> usize {
+    match fs::open(rt, name) {
+        Ok(mut file) => read_full(&mut file, buffer),
+        Err(_) => 0,
+    }
+}
+
 fn priors(rt: &HostRuntime) -> io::Result<()> {
-    let tape = fs::read(rt, "priors.bin")?;
-    priors_cases::replay(part(&tape, 0, 32768)).print(rt, "priors")?;
+    let mut tape = [0u8; 32768];
+    let n = read_file(rt, "priors.bin", &mut tape);
+    priors_cases::replay(part(&tape, 0, n)).print(rt, "priors")?;
     priors_bounds::run().print(rt, "priors at their bounds")?;
     Ok(())
 }
 
 fn calls(rt: &HostRuntime) -> io::Result<()> {
-    let tape = fs::read(rt, "calls.bin")?;
+    let mut tape = [0u8; 65536];
+    let n = read_file(rt, "calls.bin", &mut tape);
     let mut book = [0u8; 1536];
     let mut queue = [0u8; 4644];
-    calls_cases::replay(
-        part(&tape, 0, 65536),
-        calls_cases::CALLS,
-        &mut book,
-        &mut queue,
-    )
-    .print(rt, "calls")?;
+    calls_cases::replay(part(&tape, 0, n), calls_cases::CALLS, &mut book, &mut queue).print(
+        rt, "calls",
+    )?;
     Ok(())
 }
 
 fn large_calls(rt: &HostRuntime) -> io::Result<()> {
-    let tape = fs::read(rt, "large.bin")?;
+    let mut tape = [0u8; 16384];
+    let n = read_file(rt, "large.bin", &mut tape);
     let mut book = [0u8; 393240];
     let mut queue = vec![in rt.alloc(); 0u8; 528384]?;
-    calls_cases::replay(
-        part(&tape, 0, 16384),
-        calls_cases::LARGE,
-        &mut book,
-        &mut queue,
-    )
-    .print(rt, "large calls")?;
+    calls_cases::replay(part(&tape, 0, n), calls_cases::LARGE, &mut book, &mut queue).print(
+        rt,
+        "large calls",
+    )?;
     Ok(())
 }
 
 fn altered(rt: &HostRuntime) -> io::Result<()> {
-    let tape = fs::read(rt, "altered.bin")?;
+    let mut tape = [0u8; 65536];
+    let n = read_file(rt, "altered.bin", &mut tape);
     let mut book = [0u8; 1536];
     let mut queue = [0u8; 4644];
-    altered_cases::replay(part(&tape, 0, 65536), &mut book, &mut queue).print(
-        rt,
-        "altered memory",
-    )?;
+    altered_cases::replay(part(&tape, 0, n), &mut book, &mut queue).print(rt, "altered memory")?;
     Ok(())
 }
 
@@ -79,11 +95,12 @@ fn openings(rt: &HostRuntime) -> io::Result<()> {
 }
 
 fn readings(rt: &HostRuntime) -> io::Result<()> {
-    let tape = fs::read(rt, "readings.bin")?;
+    let mut tape = [0u8; 131072];
+    let n = read_file(rt, "readings.bin", &mut tape);
     let mut book = [0u8; 1536];
     let mut queue = [0u8; 4644];
     readings_cases::replay(
-        part(&tape, 0, 131072),
+        part(&tape, 0, n),
         readings_cases::READINGS,
         &mut book,
         &mut queue,
@@ -93,11 +110,12 @@ fn readings(rt: &HostRuntime) -> io::Result<()> {
 }
 
 fn tidies(rt: &HostRuntime) -> io::Result<()> {
-    let tape = fs::read(rt, "tidies.bin")?;
+    let mut tape = [0u8; 65536];
+    let n = read_file(rt, "tidies.bin", &mut tape);
     let mut book = [0u8; 1536];
     let mut queue = [0u8; 4644];
     readings_cases::replay(
-        part(&tape, 0, 65536),
+        part(&tape, 0, n),
         readings_cases::TIDIES,
         &mut book,
         &mut queue,
@@ -107,11 +125,12 @@ fn tidies(rt: &HostRuntime) -> io::Result<()> {
 }
 
 fn batches(rt: &HostRuntime) -> io::Result<()> {
-    let tape = fs::read(rt, "batches.bin")?;
+    let mut tape = [0u8; 65536];
+    let n = read_file(rt, "batches.bin", &mut tape);
     let mut book = [0u8; 1536];
     let mut queue = [0u8; 4644];
     readings_cases::replay(
-        part(&tape, 0, 65536),
+        part(&tape, 0, n),
         readings_cases::BATCHES,
         &mut book,
         &mut queue,
@@ -121,8 +140,9 @@ fn batches(rt: &HostRuntime) -> io::Result<()> {
 }
 
 fn training(rt: &HostRuntime) -> io::Result<()> {
-    let tape = fs::read(rt, "training.bin")?;
-    training_cases::replay(part(&tape, 0, 81920)).print(rt, "training")?;
+    let mut tape = [0u8; 81920];
+    let n = read_file(rt, "training.bin", &mut tape);
+    training_cases::replay(part(&tape, 0, n)).print(rt, "training")?;
     Ok(())
 }
 

@@ -1,7 +1,6 @@
 -- `kit::calls_cases::open_call` is safe and ends: the parts lent have the lengths that the opening says. Assumes nothing.
 use lib.ListN.{length-take}
 use native.Mathlib.Omega.{arith}
-use borrow.Author.Rules.{rules}
 use Rattle.kit.proofs.calls_cases.open_call.Goals as goal
 
 pub slice_bounds-open-end-2 : goal.slice_bounds-open-end-2

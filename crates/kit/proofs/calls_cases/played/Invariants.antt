@@ -1,5 +1,4 @@
 -- `kit::calls_cases::played` is safe and ends: book and queue keep their lengths, and the calls that are left grow fewer. Assumes nothing.
-use borrow.Author.Rules.{rules}
 use mathlib.Core.Path.{◌≡◌}
 use Prim.Native.Nat.{◌-◌}
 use lib.ListN.{length}

@@ -1,7 +1,6 @@
 -- `kit::figures::first_of` meets its contract: a part has as many figures as it is asked for. Assumes nothing.
 use native.Mathlib.Omega.{arith}
 use lib.ListN.{length-take}
-use borrow.Author.Rules.{rules}
 use Rattle.kit.proofs.figures.first_of.Goals as goal
 
 pub slice_bounds-result-end : goal.slice_bounds-result-end

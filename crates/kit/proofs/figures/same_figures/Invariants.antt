@@ -1,5 +1,4 @@
 -- `kit::figures::same_figures` is safe and ends: the figures that are left grow fewer. Assumes nothing.
-use borrow.Author.Rules.{rules}
 use Prim.Native.Nat.{◌-◌}
 use lib.ListN.{length}
 use Rattle.kit.proofs.figures.same_figures.Given as goal

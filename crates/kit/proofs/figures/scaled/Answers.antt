@@ -1,5 +1,4 @@
 -- `kit::figures::scaled` is safe and ends: the measure is the number of factors that are left, halved at each turn. Assumes nothing.
-use borrow.Author.Rules.{rules}
 use Rattle.kit.proofs.figures.scaled.Goals as goal
 
 pub loop-left-init : goal.loop-left-init

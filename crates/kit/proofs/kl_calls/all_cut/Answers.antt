@@ -1,7 +1,6 @@
 -- `kit::kl_calls::all_cut` is safe and ends: the parts lent have the lengths that the call says. Assumes nothing.
 use lib.ListN.{length-take}
 use native.Mathlib.Omega.{arith}
-use borrow.Author.Rules.{rules}
 use Rattle.kit.proofs.kl_calls.all_cut.Goals as goal
 
 pub slice_bounds-all_node_kl-end-2 : goal.slice_bounds-all_node_kl-end-2

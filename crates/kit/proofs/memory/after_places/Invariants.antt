@@ -1,5 +1,4 @@
 -- `kit::memory::after_places` is safe and ends: the parts that are left grow fewer. Assumes nothing.
-use borrow.Author.Rules.{rules}
 use Prim.Native.Nat.{◌-◌}
 use Rattle.kit.proofs.memory.after_places.Given as goal
 

@@ -1,7 +1,4 @@
 -- `kit::memory::all_zero` is safe and ends: the bytes that are left grow fewer. Assumes nothing.
-use borrow.Author.Rules.{rules}
-use Prim.Native.Nat.{◌-◌}
-use lib.ListN.{length}
 use Rattle.kit.proofs.memory.all_zero.Goals as goal
 
 pub loop-i-init : goal.loop-i-init

@@ -1,5 +1,4 @@
 -- `kit::memory::copy_in` is safe and ends: the slice keeps its length, and the bytes that are left grow fewer. Assumes nothing.
-use borrow.Author.Rules.{rules}
 use mathlib.Core.Path.{◌≡◌}
 use Prim.Native.Nat.{◌-◌}
 use lib.ListN.{length}

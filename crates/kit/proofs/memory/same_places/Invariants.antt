@@ -1,5 +1,4 @@
 -- `kit::memory::same_places` is safe and ends: the bytes that are left grow fewer. Assumes nothing.
-use borrow.Author.Rules.{rules}
 use Prim.Native.Nat.{◌-◌}
 use lib.ListN.{length}
 use Rattle.kit.proofs.memory.same_places.Given as goal

@@ -1,7 +1,6 @@
 -- `kit::numbers::first_numbers` meets its contract: a part has as many numbers as it is asked for. Assumes nothing.
 use lib.ListN.{length-take}
 use native.Mathlib.Omega.{arith}
-use borrow.Author.Rules.{rules}
 use Rattle.kit.proofs.numbers.first_numbers.Goals as goal
 
 pub slice_bounds-result-end : goal.slice_bounds-result-end

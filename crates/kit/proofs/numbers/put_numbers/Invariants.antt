@@ -1,5 +1,4 @@
 -- `kit::numbers::put_numbers` is safe and ends: the buffer keeps its length, and the numbers that are left grow fewer. Assumes nothing.
-use borrow.Author.Rules.{rules}
 use mathlib.Core.Path.{◌≡◌}
 use Prim.Native.Nat.{◌-◌}
 use lib.ListN.{length}

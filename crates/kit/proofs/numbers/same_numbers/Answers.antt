@@ -1,7 +1,4 @@
 -- `kit::numbers::same_numbers` is safe and ends: the numbers that are left grow fewer. Assumes nothing.
-use borrow.Author.Rules.{rules}
-use Prim.Native.Nat.{◌-◌}
-use lib.ListN.{length}
 use Rattle.kit.proofs.numbers.same_numbers.Goals as goal
 
 pub loop-i-init : goal.loop-i-init

@@ -1,6 +1,5 @@
 -- `kit::priors_bounds::put_all` is safe and ends: the slice keeps its length, and the records that are left grow fewer. Assumes nothing.
 use mathlib.Core.Path.{◌≡◌}
-use borrow.Author.Rules.{rules}
 use Prim.Native.Nat.{◌-◌}
 use lib.ListN.{length}
 use Rattle.kit.proofs.priors_bounds.put_all.Given as goal

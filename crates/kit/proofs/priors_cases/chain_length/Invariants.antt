@@ -1,5 +1,4 @@
 -- `kit::priors_cases::chain_length` is safe and ends: the chain is followed for at most 65 turns. Assumes nothing.
-use borrow.Author.Rules.{rules}
 use Prim.Native.Nat.{◌-◌}
 use Rattle.kit.proofs.priors_cases.chain_length.Given as goal
 

@@ -2,7 +2,6 @@
 use mathlib.Core.Path.{sym, ap, ◌∙◌}
 use Rattle.priors.specs.Lookups.{node_found}
 use Rattle.priors.proofs.PriorLaws.{accepted, found_fits}
-use borrow.Author.Rules.{rules}
 use Rattle.kit.proofs.priors_cases.look_up.Goals as goal
 
 pub find_node-requires : goal.find_node-requires

@@ -1,5 +1,4 @@
 -- `kit::priors_cases::replay` is safe and ends: the cases that are left grow fewer. Assumes nothing.
-use borrow.Author.Rules.{rules}
 use Prim.Native.Nat.{◌-◌}
 use Rattle.kit.proofs.priors_cases.replay.Given as goal
 

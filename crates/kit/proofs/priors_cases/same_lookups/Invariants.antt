@@ -1,5 +1,4 @@
 -- `kit::priors_cases::same_lookups` is safe and ends: the look-ups that are left grow fewer. Assumes nothing.
-use borrow.Author.Rules.{rules}
 use Prim.Native.Nat.{◌-◌}
 use Rattle.kit.proofs.priors_cases.same_lookups.Given as goal
 

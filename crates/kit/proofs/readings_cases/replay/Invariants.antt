@@ -1,5 +1,4 @@
 -- `kit::readings_cases::replay` is safe and ends: what is lent keeps its length, and the cases that are left grow fewer. Assumes nothing.
-use borrow.Author.Rules.{rules}
 use mathlib.Core.Path.{◌≡◌}
 use Prim.Native.Nat.{◌-◌}
 use lib.ListN.{length}

@@ -1,5 +1,4 @@
 -- `kit::stats_cases::same_lengths` is safe and ends: the lengths that are left grow fewer. Assumes nothing.
-use borrow.Author.Rules.{rules}
 use Prim.Native.Nat.{◌-◌}
 use Rattle.kit.proofs.stats_cases.same_lengths.Given as goal
 

@@ -1,7 +1,6 @@
 -- `kit::train_cases::same_cut` is safe and ends: the parts lent have the lengths that the training says. Assumes nothing.
 use lib.ListN.{length-take}
 use native.Mathlib.Omega.{arith}
-use borrow.Author.Rules.{rules}
 use Rattle.kit.proofs.train_cases.same_cut.Goals as goal
 
 pub slice_bounds-same_training-end-2 : goal.slice_bounds-same_training-end-2

@@ -1,6 +1,4 @@
 -- `kit::training_cases::replay` is safe and ends: the cases that are left grow fewer. Assumes nothing.
-use borrow.Author.Rules.{rules}
-use Prim.Native.Nat.{◌-◌}
 use Rattle.kit.proofs.training_cases.replay.Goals as goal
 
 pub loop-i-init : goal.loop-i-init

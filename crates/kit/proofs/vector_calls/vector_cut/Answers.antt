@@ -1,7 +1,6 @@
 -- `kit::vector_calls::vector_cut` is safe and ends: the parts lent have the lengths that the call says. Assumes nothing.
 use lib.ListN.{length-take}
 use native.Mathlib.Omega.{arith}
-use borrow.Author.Rules.{rules}
 use Rattle.kit.proofs.vector_calls.vector_cut.Goals as goal
 
 pub slice_bounds-prob_vector-end-2 : goal.slice_bounds-prob_vector-end-2
