@@ -39,7 +39,7 @@ calls_bytes x h first i (suc m) = (path_bytes x.sequences (first + i) h, go (eqb
 -- ---- the recount's answers hold the records
 
 record_told : (r : Reading Statistics) (rest : Until (List KLDivergenceStats)) → and_record (mapped stats r) rest ≡ and_then (recorded r) rest
-record_told (refused n node) rest = refl
+record_told (refused n at) rest = refl
 record_told nothing rest = refl
 record_told (answered a) rest = refl
 

@@ -49,8 +49,8 @@ one_more : (e : ℕ) (b : Bool) (q : Until KLDivergenceStats) (rest : Until (Lis
 unfolding add_records
 one_more (suc e) b q rest k values = refl
 one_more zero false q rest k values = refl
-one_more zero true (stopped n node) rest k values = refl
-one_more zero true (reached r) (stopped n node) k values = refl
+one_more zero true (stopped n at) rest k values = refl
+one_more zero true (reached r) (stopped n at) k values = refl
 one_more zero true (reached r) (reached rs) k values = refl
 
 module _ (x : Lent) (first size : ℕ) where
@@ -99,8 +99,8 @@ module _ (x : Lent) (first size : ℕ) where
 one_more_sequence : (a : Until (List KLDivergenceStats)) (rest : Until (List (List KLDivergenceStats))) (values : List Float)
     → all_entered (and_then a rest) values ≡ onward (entered 0 a values) (λ after. all_entered rest after)
 unfolding add_all
-one_more_sequence (stopped n node) rest values = refl
-one_more_sequence (reached rs) (stopped n node) values = refl
+one_more_sequence (stopped n at) rest values = refl
+one_more_sequence (reached rs) (stopped n at) values = refl
 one_more_sequence (reached rs) (reached rss) values = refl
 
 module _ (x : Input) (size : ℕ) where

@@ -30,11 +30,11 @@ length_of r = r.sequence_len
 
 -- 1 for what is reached
 abbrev arrived : {X : Type 0} → Until X → ℕ
-arrived (stopped n node) = 0
+arrived (stopped n at) = 0
 arrived (reached x) = 1
 
 abbrev records : Until (List KLDivergenceStats) → List KLDivergenceStats
-records (stopped n node) = []
+records (stopped n at) = []
 records (reached rs) = rs
 
 -- ---- the statistics of the recount are of its sequence length
@@ -60,7 +60,7 @@ read_length L zero zero (ended n node) a h = let z : ◌≡◌ {A = ℕ} 0 1 = a
 read_length L zero zero (walked ps k) a h = sym (ap held_length h) ∙ over_length (no_stats L) ps
   where
     held_length : Until KLDivergenceStats → ℕ
-    held_length (stopped n node) = 0
+    held_length (stopped n at) = 0
     held_length (reached s) = length_of s
 
 stats_length : (x : Lent) (r : Recount) (a : KLDivergenceStats) → recount_stats x r ≡ reached a → length_of a ≡ sequence_length r.window r.paths
@@ -86,8 +86,8 @@ one_more : (i n : ℕ) (b : Bool) (u : Until KLDivergenceStats) (rest : Until (L
     → unless_stopped n (cond b (and_then u rest) rest) ≡ reached rs → map length_of rs ≡ cond b (suc i ∷ tail) tail
 one_more i (suc n) b u rest rs tail hu hr h = let z : ◌≡◌ {A = ℕ} 0 1 = ap arrived h in absurd (omega arith)
 one_more i zero false u rest rs tail hu hr h = hr rs h
-one_more i zero true (stopped n node) rest rs tail hu hr h = let z : ◌≡◌ {A = ℕ} 0 1 = ap arrived h in absurd (omega arith)
-one_more i zero true (reached a) (stopped n node) rs tail hu hr h = let z : ◌≡◌ {A = ℕ} 0 1 = ap arrived h in absurd (omega arith)
+one_more i zero true (stopped n at) rest rs tail hu hr h = let z : ◌≡◌ {A = ℕ} 0 1 = ap arrived h in absurd (omega arith)
+one_more i zero true (reached a) (stopped n at) rs tail hu hr h = let z : ◌≡◌ {A = ℕ} 0 1 = ap arrived h in absurd (omega arith)
 one_more i zero true (reached a) (reached more) rs tail hu hr h =
     ap (λ (l : List KLDivergenceStats). map length_of l) (sym (ap records h)) ∙ ap (λ (n : ℕ). n ∷ map length_of more) (hu a refl) ∙ ap (λ (l : List ℕ). suc i ∷ l) (hr more refl)
 

@@ -65,8 +65,8 @@ abbrev Records : Type 0
 Records = Until (List (List KLDivergenceStats))
 
 stops : (u : Records) (values : List Float) (n : ℕ) (node : Option Address) → stopped n node ≡ all_entered u values → u ≡ stopped n node
-stops (stopped m a) values n node e = cc
-stops (reached rss) values n node e = let z : ◌≡◌ {A = ℕ} 0 1 = cc in absurd (omega arith)
+stops (stopped m a) values n at e = cc
+stops (reached rss) values n at e = let z : ◌≡◌ {A = ℕ} 0 1 = cc in absurd (omega arith)
 
 module _ (x : Input) (book knots : List ℕ) (values : List Float) where
   pub refused_leaves : (r : Refusal) → number_of r ≡ train_refusal x book knots values → named_node r ≡ none
@@ -87,7 +87,7 @@ module _ (x : Input) (book knots : List ℕ) (values : List Float) where
       where
         go : (u : Records) → course x book ≡ u → reached after ≡ all_entered u (started (knots_of x) values)
             → record { answer = answered (knots_of x); book = zeros (length book); knots = knot_lengths (knots_of x) x.lent.rate ++ drop (knots_of x) knots; values = after } ≡ train_asked x book knots values
-        go (stopped n node) is h = let z : ◌≡◌ {A = ℕ} 0 1 = cc in absurd (omega arith)
+        go (stopped n at) is h = let z : ◌≡◌ {A = ℕ} 0 1 = cc in absurd (omega arith)
         go (reached rss) is h =
             let values-are : after ≡ add_all rss (started (knots_of x) values) = cc in
             rw (none-refused, is, values-are)

@@ -46,7 +46,7 @@ passed (suc n) r h = absurd (omega arith)
 
 -- what is told of an answer has the answer's number
 mapped_number : {X Y : Type 0} (part : X → Y) (r : Reading X) → reading_number (mapped part r) ≡ reading_number r
-mapped_number part (refused n node) = refl
+mapped_number part (refused n at) = refl
 mapped_number part nothing = refl
 mapped_number part (answered x) = refl
 

@@ -114,7 +114,7 @@ stats_other len w h = record { is_not_nine = rw (stats_number len w) h }
 
 -- what stands in the result has the same number
 mapped_other : {X Y : Type 0} (part : X → Y) {r : Reading X} → Other r → Other (mapped part r)
-mapped_other part {r = refused n node} h = record { is_not_nine = h.is_not_nine }
+mapped_other part {r = refused n at} h = record { is_not_nine = h.is_not_nine }
 mapped_other part {r = nothing} h = nothing_other
 mapped_other part {r = answered x} h = answered_other (part x)
 

@@ -230,7 +230,7 @@ rows_without whole [] = tt
 rows_without whole (r ∷ rs) = (no_probability r.count whole, rows_without whole rs)
 
 vector_told_lem : (o : Output) (r : Reading Counts) → TellingWithout probabilities_in (vector_telling o r)
-vector_told_lem o (refused n node) = tt
+vector_told_lem o (refused n at) = tt
 vector_told_lem o nothing = tt
 vector_told_lem o (answered c) = (
   no_probability c.ending (total c),
@@ -288,7 +288,7 @@ module _ (s : Seen) (t : LentTables) (p : LentPriors) (rank : ℕ) (o : Output) 
 
 -- what is told of all nodes fills the output
 all_filled : (o : Output) (r : Reading Divergences) → ToldWithout (λ (a : Divergences). values_of a.places) r → TellingWithout divergences_in (all_telling o r)
-all_filled o (refused n node) h = tt
+all_filled o (refused n at) h = tt
 all_filled o nothing h = tt
 all_filled o (answered a) h = filled_without (values_of a.places) o.figures (length a.places) (length-map a.places (λ (p : Place). p.value)) h
 

@@ -1,5 +1,5 @@
 -- An entry's node, kind and child as one number, whose order is 'nodes ascend; in a node the ending comes first, then children ascending'
--- (`key-order` of proofs/KeyLaws.antt). Nodes and children are ranks of addresses, below 2 ^ 64; keys are told apart only for these. Assumes nothing.
+-- (`key_order` of proofs/KeyLaws.antt). Nodes and children are ranks of addresses, below 2 ^ 64; keys are told apart only for these. Assumes nothing.
 use Rattle.std.specs.Prelude.{ℕ, ◌+◌, ◌*◌, ◌/◌, ◌%◌, ◌^◌}
 use Rattle.priors.specs.Address.{rank}
 use Rattle.entries.specs.declared.keys.Key.{Key}

@@ -1,5 +1,5 @@
--- An address is a scale, a signed number, and a point, ordered by scale, then point. Its rank is a number below 2 ^ 64 in that order (`rank-order` of
--- proofs/Ranks.antt), and every such number is the rank of an address (`rank-back`). Assumes nothing.
+-- An address is a scale, a signed number, and a point, ordered by scale, then point. Its rank is a number below 2 ^ 64 in that order (`rank_order` of
+-- proofs/Ranks.antt), and every such number is the rank of an address (`rank_back`). Assumes nothing.
 use Rattle.std.specs.Prelude.{ℕ, ◌+◌, ◌*◌, ◌/◌, ◌%◌, ◌^◌, List, ◌++◌, Bool, not, ◌&&◌, ◌||◌, ltb, ℤ}
 use Rattle.std.specs.Int.Signed.{lt_z}
 use Rattle.std.specs.Int.{w32}

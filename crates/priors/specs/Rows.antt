@@ -30,7 +30,7 @@ unfoldable pub count_of : ℕ → List Row → Option ℕ
 count_of k [] = none
 count_of k (r ∷ rs) = cond (eqb r.key k) (some r.count) (count_of k rs)
 
--- the same as a search of ascending rows finds it, which ends at the first row that is not below k. Where rows ascend it is `count_of` (`look-exact` of
+-- the same as a search of ascending rows finds it, which ends at the first row that is not below k. Where rows ascend it is `count_of` (`look_exact` of
 -- proofs/Exactly.antt)
 unfoldable pub look : ℕ → List Row → Option ℕ
 look k [] = none

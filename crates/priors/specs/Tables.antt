@@ -15,7 +15,7 @@ pub record LentTables : Type 0 where
 abbrev pub lent_tables : List Float → List Float → LentTables
 lent_tables G D = record { G = G; D = D }
 
--- -2 ^ 40 and 2 ^ 40; `highest-is` and `lowest-is` of proofs/TableLaws.antt tie the bits to the numbers
+-- -2 ^ 40 and 2 ^ 40; `highest_is` and `lowest_is` of proofs/TableLaws.antt tie the bits to the numbers
 abbrev pub lowest : Float
 lowest = of_bits binary64 0xc270_0000_0000_0000
 

@@ -29,14 +29,14 @@ loop-low-preserved c =
 
 pub returns-then-same : goal.returns-then-same
 returns-then-same c =
-    sym (found_at ((rows c.args.book.now c.args.used)) ((key_value c.args.key)) c.loop-low.low ((bracket_place c.args.book.now c.args.used ((key_value c.args.key)) c.loop-low.low c.loop-low.high c.loop-low.invariant c.loop-low-test.false))
-    (holds_at c.args.book.now c.args.used c.loop-low.low ((key_value c.args.key)) true c.if-low-used.true (sym c.if-same.true ∙ c.same.ensures)))
+    sym (found_at (rows c.args.book.now c.args.used) (key_value c.args.key) c.loop-low.low (bracket_place c.args.book.now c.args.used (key_value c.args.key) c.loop-low.low c.loop-low.high c.loop-low.invariant c.loop-low-test.false)
+    (holds_at c.args.book.now c.args.used c.loop-low.low (key_value c.args.key) true c.if-low-used.true (sym c.if-same.true ∙ c.same.ensures)))
 
 pub returns-else-same : goal.returns-else-same
 returns-else-same c =
-    sym (found_missing ((rows c.args.book.now c.args.used)) ((key_value c.args.key)) c.loop-low.low ((bracket_place c.args.book.now c.args.used ((key_value c.args.key)) c.loop-low.low c.loop-low.high c.loop-low.invariant c.loop-low-test.false))
-    (holds_at c.args.book.now c.args.used c.loop-low.low ((key_value c.args.key)) false c.if-low-used.true (sym c.if-same.false ∙ c.same.ensures)))
+    sym (found_missing (rows c.args.book.now c.args.used) (key_value c.args.key) c.loop-low.low (bracket_place c.args.book.now c.args.used (key_value c.args.key) c.loop-low.low c.loop-low.high c.loop-low.invariant c.loop-low-test.false)
+    (holds_at c.args.book.now c.args.used c.loop-low.low (key_value c.args.key) false c.if-low-used.true (sym c.if-same.false ∙ c.same.ensures)))
 
 pub returns-else-low-used : goal.returns-else-low-used
 returns-else-low-used c =
-    sym (found_missing ((rows c.args.book.now c.args.used)) ((key_value c.args.key)) c.loop-low.low ((bracket_place c.args.book.now c.args.used ((key_value c.args.key)) c.loop-low.low c.loop-low.high c.loop-low.invariant c.loop-low-test.false)) (holds_past c.args.book.now c.args.used c.loop-low.low ((key_value c.args.key)) c.if-low-used.false))
+    sym (found_missing (rows c.args.book.now c.args.used) (key_value c.args.key) c.loop-low.low (bracket_place c.args.book.now c.args.used (key_value c.args.key) c.loop-low.low c.loop-low.high c.loop-low.invariant c.loop-low-test.false) (holds_past c.args.book.now c.args.used c.loop-low.low (key_value c.args.key) c.if-low-used.false))
