@@ -31,6 +31,9 @@ for file in ../vectors/*.bin; do
     cmp "$file" "target/vectors/$(basename "$file")"
 done
 
+# The kit's program is given the same files.
+diff -r ../vectors ../crates/kit/data
+
 # What links the archive finds it, and passes on what is said about it.
 archive/test.sh
 

@@ -46,6 +46,11 @@ fn read_file(rt: &HostRuntime, name: &str, buffer: &mut [u8]) -> usize {
     }
 }
 
+// So many bytes of zero. An array this long, written out, is more than the check computes with.
+fn zeros<const N: usize>() -> [u8; N] {
+    [0u8; N]
+}
+
 fn priors(rt: &HostRuntime) -> io::Result<()> {
     let mut tape = [0u8; 32768];
     let n = read_file(rt, "priors.bin", &mut tape);
@@ -69,7 +74,7 @@ fn large_calls(rt: &HostRuntime) -> io::Result<()> {
     let mut tape = [0u8; 16384];
     let n = read_file(rt, "large.bin", &mut tape);
     let mut book = [0u8; 393240];
-    let mut queue = vec![in rt.alloc(); 0u8; 528384]?;
+    let mut queue = zeros::<528384>();
     calls_cases::replay(part(&tape, 0, n), calls_cases::LARGE, &mut book, &mut queue).print(
         rt,
         "large calls",
@@ -88,7 +93,7 @@ fn altered(rt: &HostRuntime) -> io::Result<()> {
 
 fn openings(rt: &HostRuntime) -> io::Result<()> {
     let mut book = [0u8; 393240];
-    let mut queue = vec![in rt.alloc(); 0u8; 528384]?;
+    let mut queue = zeros::<528384>();
     book_bounds::openings(&mut book, &mut queue).print(rt, "openings at their bounds")?;
     book_bounds::paths().print(rt, "paths at their bounds")?;
     Ok(())
