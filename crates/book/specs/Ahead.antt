@@ -1,5 +1,5 @@
 -- How the code tells which entries stay, in one pass: in a formed book a node's entries stand together, its ending first, so an ending's node is told by reading on to the
--- next node (`kept_ahead` of proofs/AheadLaws.antt: these are the rows that `kept` names). Then what one move and one turn of the pass leave. Assumes nothing.
+-- next node (`kept_ahead_lem` of proofs/AheadLaws.antt: these are the rows that `kept` names). Then what one move and one turn of the pass leave. Assumes nothing.
 use Rattle.std.specs.Prelude.{ℕ, ◌+◌, ◌-◌, ◌*◌, ◌≤◌, ◌≡◌, List, [], ◌∷◌, ◌++◌, Bool, false, cond, ◌&&◌, ◌||◌, ltb, eqb, drop}
 use Rattle.priors.specs.Rows.{Row}
 use Rattle.entries.specs.Limits.{entry_size}
