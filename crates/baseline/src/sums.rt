@@ -73,7 +73,7 @@ pub(crate) fn add(sums: &mut KnotSums, stats: KLDivergenceStats)
     *sums = added(*sums, stats);
 }
 
-// `added` by way of `add`: a local is lent and comes back. It stands apart from `add_at` because that loan is proved by hand.
+// `added` by way of `add`: a local is lent and comes back.
 pub(crate) fn with_added(sums: KnotSums, stats: KLDivergenceStats) -> KnotSums
     requires { stats.nz_count ≤ max_entries }
     ensures { result ≡ added_of sums stats }
