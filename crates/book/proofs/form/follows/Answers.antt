@@ -13,61 +13,36 @@ use Rattle.book.proofs.form.follows.Goals as goal
 
 pub returns-then-last-key-2 : goal.returns-then-last-key-2
 returns-then-last-key-2 c =
-    let by_fields : (let l = c.args.last in
-    let k = c.args.key in
-    follows (key_value l) (row (key_value k) 0)
-    ≡ (ltb l.node k.node || (eqb l.node k.node && (ltb l.kind k.kind || (eqb l.kind k.kind && ltb l.child k.child))))
-    && (eqb l.node k.node || eqb k.kind 0)) =
-    follows_is c.args.key (omega arith) (omega arith) c.args.last (omega arith) (omega arith) in
     let l = c.args.last in
     let k = c.args.key in
+    let by_fields = follows_is k (omega arith) (omega arith) l (omega arith) (omega arith) in
     rw (by_fields, le-ltb l.node k.node (omega arith), eq-eqb l.node k.node (omega arith), lt-ltb l.kind k.kind (omega arith))
 
 pub returns-then-key-last : goal.returns-then-key-last
 returns-then-key-last c =
-    let by_fields : (let l = c.args.last in
-    let k = c.args.key in
-    follows (key_value l) (row (key_value k) 0)
-    ≡ (ltb l.node k.node || (eqb l.node k.node && (ltb l.kind k.kind || (eqb l.kind k.kind && ltb l.child k.child))))
-    && (eqb l.node k.node || eqb k.kind 0)) =
-    follows_is c.args.key (omega arith) (omega arith) c.args.last (omega arith) (omega arith) in
     let l = c.args.last in
     let k = c.args.key in
+    let by_fields = follows_is k (omega arith) (omega arith) l (omega arith) (omega arith) in
     rw (by_fields, le-ltb l.node k.node (omega arith), eq-eqb l.node k.node (omega arith), le-ltb l.kind k.kind (omega arith), ne_eqb l.kind k.kind (λ e. omega arith))
 
 pub returns-then-last-key : goal.returns-then-last-key
 returns-then-last-key c =
-    let by_fields : (let l = c.args.last in
-    let k = c.args.key in
-    follows (key_value l) (row (key_value k) 0)
-    ≡ (ltb l.node k.node || (eqb l.node k.node && (ltb l.kind k.kind || (eqb l.kind k.kind && ltb l.child k.child))))
-    && (eqb l.node k.node || eqb k.kind 0)) =
-    follows_is c.args.key (omega arith) (omega arith) c.args.last (omega arith) (omega arith) in
     let l = c.args.last in
     let k = c.args.key in
+    let by_fields = follows_is k (omega arith) (omega arith) l (omega arith) (omega arith) in
     rw (by_fields, le-ltb l.node k.node (omega arith), eq-eqb l.node k.node (omega arith), le-ltb l.kind k.kind (omega arith), eq-eqb l.kind k.kind (omega arith)) (sym (and_true (ltb l.child k.child)))
 
 pub returns-then-key-last-2 : goal.returns-then-key-last-2
 returns-then-key-last-2 c =
-    let by_fields : (let l = c.args.last in
-    let k = c.args.key in
-    follows (key_value l) (row (key_value k) 0)
-    ≡ (ltb l.node k.node || (eqb l.node k.node && (ltb l.kind k.kind || (eqb l.kind k.kind && ltb l.child k.child))))
-    && (eqb l.node k.node || eqb k.kind 0)) =
-    follows_is c.args.key (omega arith) (omega arith) c.args.last (omega arith) (omega arith) in
     let l = c.args.last in
     let k = c.args.key in
+    let by_fields = follows_is k (omega arith) (omega arith) l (omega arith) (omega arith) in
     rw (by_fields, le-ltb l.node k.node (omega arith), ne_eqb l.node k.node (λ e. omega arith))
 
 pub returns : goal.returns
 returns c =
-    let by_fields : (let l = c.args.last in
-    let k = c.args.key in
-    follows (key_value l) (row (key_value k) 0)
-    ≡ (ltb l.node k.node || (eqb l.node k.node && (ltb l.kind k.kind || (eqb l.kind k.kind && ltb l.child k.child))))
-    && (eqb l.node k.node || eqb k.kind 0)) =
-    follows_is c.args.key (omega arith) (omega arith) c.args.last (omega arith) (omega arith) in
     let l = c.args.last in
     let k = c.args.key in
+    let by_fields = follows_is k (omega arith) (omega arith) l (omega arith) (omega arith) in
     let apart = c.if-last-key.false in
     rw (by_fields, lt-ltb l.node k.node (omega arith), ne_eqb l.node k.node apart)

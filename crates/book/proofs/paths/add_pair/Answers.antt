@@ -18,12 +18,8 @@ use Rattle.book.proofs.paths.add_pair.Goals as goal
 
 pub bump-requires : goal.bump-requires
 bump-requires c =
-    let is_at : Spot (child_key c.args.node c.args.next) (rows c.args.book.now c.args.used) c.in-At.i true =
-    spot_at (child_key c.args.node c.args.next) c.in-At.i (rows c.args.book.now c.args.used) cc in
-    let count_fits : entry_count_at c.args.book.now c.in-At.i ≤ 2 ^ 32 - 2 =
-    count_at c.args.book.now c.args.used (child_key c.args.node c.args.next) c.in-At.i c.requires.used_in_bounds is_at (2 ^ 32 - 2) c.requires.counts_up_to in
-    let is_at : Spot (child_key c.args.node c.args.next) (rows c.args.book.now c.args.used) c.in-At.i true =
-    spot_at (child_key c.args.node c.args.next) c.in-At.i (rows c.args.book.now c.args.used) cc in
+    let is_at = spot_at (child_key c.args.node c.args.next) c.in-At.i (rows c.args.book.now c.args.used) cc in
+    let count_fits = count_at c.args.book.now c.args.used (child_key c.args.node c.args.next) c.in-At.i c.requires.used_in_bounds is_at (2 ^ 32 - 2) c.requires.counts_up_to in
     record { i_in_bounds = omega (arith, at_lt c.args.book.now c.args.used (child_key c.args.node c.args.next) c.in-At.i c.requires.used_in_bounds is_at); i_bound = omega (arith, count_fits) }
 
 pub touch-listed-requires : goal.touch-listed-requires
@@ -32,33 +28,22 @@ touch-listed-requires c =
 
 pub overflow_sub-listed : goal.overflow_sub-listed
 overflow_sub-listed c =
-    let touched : Rewritten c.args.book.now c.touch-listed.new.book c.touch-listed.result (touch (end_key c.args.node) (rows c.args.book.now c.args.used)) =
-    rw c.ending.ensures at c.touch-listed.ensures in
-    second_after c.args.book.now c.args.used (end_key c.args.node) (child_key c.args.node c.args.next) c.touch-listed.new.book c.touch-listed.result (touched)
+    let touched = rw c.ending.ensures at c.touch-listed.ensures in
+    second_after c.args.book.now c.args.used (end_key c.args.node) (child_key c.args.node c.args.next) c.touch-listed.new.book c.touch-listed.result touched
 
 pub overflow_add-i : goal.overflow_add-i
 overflow_add-i c =
-    let touched : Rewritten c.args.book.now c.touch-listed.new.book c.touch-listed.result (touch (end_key c.args.node) (rows c.args.book.now c.args.used)) =
-    rw c.ending.ensures at c.touch-listed.ensures in
-    let is_missing : Spot (child_key c.args.node c.args.next) (rows c.args.book.now c.args.used) c.in-Missing.i false =
-    spot_missing (child_key c.args.node c.args.next) c.in-Missing.i (rows c.args.book.now c.args.used) cc in
-    let is_moved : Spot (child_key c.args.node c.args.next) (rows c.touch-listed.new.book c.touch-listed.result) (c.in-Missing.i + (c.touch-listed.result - c.args.used)) false =
-    second_place c.args.book.now c.args.used (end_key c.args.node) (child_key c.args.node c.args.next) c.touch-listed.new.book c.touch-listed.result touched c.in-Missing.i (end_below_child c.args.node c.args.next) is_missing in
-    let touched : Rewritten c.args.book.now c.touch-listed.new.book c.touch-listed.result (touch (end_key c.args.node) (rows c.args.book.now c.args.used)) =
-    rw c.ending.ensures at c.touch-listed.ensures in
+    let touched = rw c.ending.ensures at c.touch-listed.ensures in
+    let is_missing = spot_missing (child_key c.args.node c.args.next) c.in-Missing.i (rows c.args.book.now c.args.used) cc in
+    let is_moved = second_place c.args.book.now c.args.used (end_key c.args.node) (child_key c.args.node c.args.next) c.touch-listed.new.book c.touch-listed.result touched c.in-Missing.i (end_below_child c.args.node c.args.next) is_missing in
     let fits = second_fits c.args.book.now c.args.used (end_key c.args.node) (child_key c.args.node c.args.next) c.touch-listed.new.book c.touch-listed.result touched c.requires.used_in_bounds_2 (omega arith) in
     omega (arith, missing_le c.touch-listed.new.book c.touch-listed.result (child_key c.args.node c.args.next) (c.in-Missing.i + (c.touch-listed.result - c.args.used)) fits is_moved)
 
 pub insert-requires : goal.insert-requires
 insert-requires c =
-    let touched : Rewritten c.args.book.now c.touch-listed.new.book c.touch-listed.result (touch (end_key c.args.node) (rows c.args.book.now c.args.used)) =
-    rw c.ending.ensures at c.touch-listed.ensures in
-    let is_missing : Spot (child_key c.args.node c.args.next) (rows c.args.book.now c.args.used) c.in-Missing.i false =
-    spot_missing (child_key c.args.node c.args.next) c.in-Missing.i (rows c.args.book.now c.args.used) cc in
-    let is_moved : Spot (child_key c.args.node c.args.next) (rows c.touch-listed.new.book c.touch-listed.result) (c.in-Missing.i + (c.touch-listed.result - c.args.used)) false =
-    second_place c.args.book.now c.args.used (end_key c.args.node) (child_key c.args.node c.args.next) c.touch-listed.new.book c.touch-listed.result touched c.in-Missing.i (end_below_child c.args.node c.args.next) is_missing in
-    let touched : Rewritten c.args.book.now c.touch-listed.new.book c.touch-listed.result (touch (end_key c.args.node) (rows c.args.book.now c.args.used)) =
-    rw c.ending.ensures at c.touch-listed.ensures in
+    let touched = rw c.ending.ensures at c.touch-listed.ensures in
+    let is_missing = spot_missing (child_key c.args.node c.args.next) c.in-Missing.i (rows c.args.book.now c.args.used) cc in
+    let is_moved = second_place c.args.book.now c.args.used (end_key c.args.node) (child_key c.args.node c.args.next) c.touch-listed.new.book c.touch-listed.result touched c.in-Missing.i (end_below_child c.args.node c.args.next) is_missing in
     let s' = c.touch-listed.new.book in
     let n' = c.touch-listed.result in
     let fits = second_fits c.args.book.now c.args.used (end_key c.args.node) (child_key c.args.node c.args.next) s' n' touched c.requires.used_in_bounds_2 (omega arith) in
@@ -67,31 +52,21 @@ insert-requires c =
 
 pub overflow_add-result : goal.overflow_add-result
 overflow_add-result c =
-    let touched : Rewritten c.args.book.now c.touch-listed.new.book c.touch-listed.result (touch (end_key c.args.node) (rows c.args.book.now c.args.used)) =
-    rw c.ending.ensures at c.touch-listed.ensures in
+    let touched = rw c.ending.ensures at c.touch-listed.ensures in
     omega (arith, second_fits c.args.book.now c.args.used (end_key c.args.node) (child_key c.args.node c.args.next) c.touch-listed.new.book c.touch-listed.result touched c.requires.used_in_bounds_2 (omega arith))
 
 pub returns-in-At : goal.returns-in-At
 returns-in-At c =
-    let is_at : Spot (child_key c.args.node c.args.next) (rows c.args.book.now c.args.used) c.in-At.i true =
-    spot_at (child_key c.args.node c.args.next) c.in-At.i (rows c.args.book.now c.args.used) cc in
-    let count_fits : entry_count_at c.args.book.now c.in-At.i ≤ 2 ^ 32 - 2 =
-    count_at c.args.book.now c.args.used (child_key c.args.node c.args.next) c.in-At.i c.requires.used_in_bounds is_at (2 ^ 32 - 2) c.requires.counts_up_to in
-    let is_at : Spot (child_key c.args.node c.args.next) (rows c.args.book.now c.args.used) c.in-At.i true =
-    spot_at (child_key c.args.node c.args.next) c.in-At.i (rows c.args.book.now c.args.used) cc in
+    let is_at = spot_at (child_key c.args.node c.args.next) c.in-At.i (rows c.args.book.now c.args.used) cc in
+    let count_fits = count_at c.args.book.now c.args.used (child_key c.args.node c.args.next) c.in-At.i c.requires.used_in_bounds is_at (2 ^ 32 - 2) c.requires.counts_up_to in
     rw (ending_touched c.args.node c.args.next (rows c.args.book.now c.args.used) (omega arith) c.requires.endings_listed (_, look_spot (child_key c.args.node c.args.next) is_at), c.bump.ensures)
     (changed_at c.args.book.now c.args.used (child_key c.args.node c.args.next) c.in-At.i c.requires.used_in_bounds is_at (some 1) (λ d. d + 1) (entry_count_at c.args.book.now c.in-At.i + 1) refl (omega (arith, count_fits)))
 
 pub returns-in-Missing : goal.returns-in-Missing
 returns-in-Missing c =
-    let touched : Rewritten c.args.book.now c.touch-listed.new.book c.touch-listed.result (touch (end_key c.args.node) (rows c.args.book.now c.args.used)) =
-    rw c.ending.ensures at c.touch-listed.ensures in
-    let is_missing : Spot (child_key c.args.node c.args.next) (rows c.args.book.now c.args.used) c.in-Missing.i false =
-    spot_missing (child_key c.args.node c.args.next) c.in-Missing.i (rows c.args.book.now c.args.used) cc in
-    let is_moved : Spot (child_key c.args.node c.args.next) (rows c.touch-listed.new.book c.touch-listed.result) (c.in-Missing.i + (c.touch-listed.result - c.args.used)) false =
-    second_place c.args.book.now c.args.used (end_key c.args.node) (child_key c.args.node c.args.next) c.touch-listed.new.book c.touch-listed.result touched c.in-Missing.i (end_below_child c.args.node c.args.next) is_missing in
-    let touched : Rewritten c.args.book.now c.touch-listed.new.book c.touch-listed.result (touch (end_key c.args.node) (rows c.args.book.now c.args.used)) =
-    rw c.ending.ensures at c.touch-listed.ensures in
+    let touched = rw c.ending.ensures at c.touch-listed.ensures in
+    let is_missing = spot_missing (child_key c.args.node c.args.next) c.in-Missing.i (rows c.args.book.now c.args.used) cc in
+    let is_moved = second_place c.args.book.now c.args.used (end_key c.args.node) (child_key c.args.node c.args.next) c.touch-listed.new.book c.touch-listed.result touched c.in-Missing.i (end_below_child c.args.node c.args.next) is_missing in
     let s = c.args.book.now in
     let n = c.args.used in
     let s' = c.touch-listed.new.book in

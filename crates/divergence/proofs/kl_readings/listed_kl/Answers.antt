@@ -10,15 +10,12 @@ use Rattle.divergence.proofs.kl_readings.listed_kl.Goals as goal
 
 pub node_divergence-requires : goal.node_divergence-requires
 node_divergence-requires c =
-    let listed : (ListedAt c.args.book.now c.args.used c.args.rank c.in-Entries.i c.in-Entries.to) =
-    subst (λ (l : Listed). IsListed c.args.book.now c.args.used c.args.rank l) c.in-Entries.is c.find_listed.ensures in
-    let at = listed in
+    let at = c.in-Entries.ensures in
     record { i_lt_to = at.place_first; to_le_max_entries = omega (arith, at.place_fits, c.requires.used_le_max_entries); to_in_bounds = omega (arith, at.place_fits, c.requires.used_in_bounds); layer_value = c.requires.layer_value; d_value = c.requires.d_value }
 
 pub returns-in-Entries : goal.returns-in-Entries
 returns-in-Entries c =
-    let listed : (ListedAt c.args.book.now c.args.used c.args.rank c.in-Entries.i c.in-Entries.to) =
-    subst (λ (l : Listed). IsListed c.args.book.now c.args.used c.args.rank l) c.in-Entries.is c.find_listed.ensures in
+    let at = c.in-Entries.ensures in
     let g = c.args.g.now in
     let d = c.args.d.now in
     let nodes = c.args.nodes.now in
@@ -26,7 +23,6 @@ returns-in-Entries c =
     let layer = c.args.layer in
     let rank = c.args.rank in
     let e = evidence_at c.args.book.now c.in-Entries.i c.in-Entries.to in
-    let at = listed in
     c.answer.ensures
     ∙ ap (divergence_reading rank) (c.node_divergence.ensures ∙ ap (λ (k : ℕ). node_divergence g d (prior_of nodes children layer k) e) at.node_is)
     ∙ sym (ap (of_listed g d nodes children layer rank) at.evidence_is)

@@ -13,33 +13,28 @@ use Rattle.divergence.proofs.vectors.posterior_vector.Goals as goal
 
 pub overflow_mul-i : goal.overflow_mul-i
 overflow_mul-i c =
-    let listed : (ListedAt c.args.book.now c.args.used c.args.rank c.in-Entries.i c.in-Entries.to) =
-    subst (λ (l : Listed). IsListed c.args.book.now c.args.used c.args.rank l) c.in-Entries.is c.find_listed.ensures in
-    record { fits = omega (arith, (listed).place_first, (listed).place_fits, c.requires.usable.lent, c.requires.usable.few) }
+    let at = c.in-Entries.ensures in
+    record { fits = omega (arith, at.place_first, at.place_fits, c.requires.usable.lent, c.requires.usable.few) }
 
 pub overflow_add-i : goal.overflow_add-i
 overflow_add-i c =
-    let listed : (ListedAt c.args.book.now c.args.used c.args.rank c.in-Entries.i c.in-Entries.to) =
-    subst (λ (l : Listed). IsListed c.args.book.now c.args.used c.args.rank l) c.in-Entries.is c.find_listed.ensures in
-    record { fits = omega (arith, (listed).place_first, (listed).place_fits, c.requires.usable.lent, c.requires.usable.few) }
+    let at = c.in-Entries.ensures in
+    record { fits = omega (arith, at.place_first, at.place_fits, c.requires.usable.lent, c.requires.usable.few) }
 
 pub read_u32-requires : goal.read_u32-requires
 read_u32-requires c =
-    let listed : (ListedAt c.args.book.now c.args.used c.args.rank c.in-Entries.i c.in-Entries.to) =
-    subst (λ (l : Listed). IsListed c.args.book.now c.args.used c.args.rank l) c.in-Entries.is c.find_listed.ensures in
-    omega (arith, (listed).place_first, (listed).place_fits, c.requires.usable.lent, c.requires.usable.few)
+    let at = c.in-Entries.ensures in
+    omega (arith, at.place_first, at.place_fits, c.requires.usable.lent, c.requires.usable.few)
 
 pub overflow_add-i-in-Entries : goal.overflow_add-i-in-Entries
 overflow_add-i-in-Entries c =
-    let listed : (ListedAt c.args.book.now c.args.used c.args.rank c.in-Entries.i c.in-Entries.to) =
-    subst (λ (l : Listed). IsListed c.args.book.now c.args.used c.args.rank l) c.in-Entries.is c.find_listed.ensures in
-    record { fits = omega (arith, (listed).place_first, (listed).place_fits, c.requires.usable.lent, c.requires.usable.few) }
+    let at = c.in-Entries.ensures in
+    record { fits = omega (arith, at.place_first, at.place_fits, c.requires.usable.lent, c.requires.usable.few) }
 
 pub vector-requires : goal.vector-requires
 vector-requires c =
-    let listed : (ListedAt c.args.book.now c.args.used c.args.rank c.in-Entries.i c.in-Entries.to) =
-    subst (λ (l : Listed). IsListed c.args.book.now c.args.used c.args.rank l) c.in-Entries.is c.find_listed.ensures in
-    record { mergeable = listed_mergeable c.args.children.now c.requires.children_value c.args.prior.link c.requires.link_bound c.args.book.now c.requires.usable listed; first_len_bound = c.requires.link_len_bound; end_le_max_entries = omega (arith, (listed).place_first, (listed).place_fits, c.requires.usable.lent, c.requires.usable.few); ending_bound = search rules }
+    let at = c.in-Entries.ensures in
+    record { mergeable = listed_mergeable c.args.children.now c.requires.children_value c.args.prior.link c.requires.link_bound c.args.book.now c.requires.usable at; first_len_bound = c.requires.link_len_bound; end_le_max_entries = omega (arith, at.place_first, at.place_fits, c.requires.usable.lent, c.requires.usable.few); ending_bound = search rules }
 
 pub vector-requires-in-Unlisted : goal.vector-requires-in-Unlisted
 vector-requires-in-Unlisted c =
@@ -47,13 +42,12 @@ vector-requires-in-Unlisted c =
 
 pub returns-in-Entries : goal.returns-in-Entries
 returns-in-Entries c =
-    let listed : (ListedAt c.args.book.now c.args.used c.args.rank c.in-Entries.i c.in-Entries.to) =
-    subst (λ (l : Listed). IsListed c.args.book.now c.args.used c.args.rank l) c.in-Entries.is c.find_listed.ensures in
+    let at = c.in-Entries.ensures in
     let i = c.in-Entries.i in
     let to = c.in-Entries.to in
     let prior = prior_of_node c.args.children.now c.args.prior in
     let is : posterior prior (evidence_of c.args.rank (listed_nodes (rows c.args.book.now c.args.used))) ≡ merged_counts (c.args.prior.count + entry_count_at c.args.book.now i) c.args.children.now c.args.prior.link c.args.book.now (i + 1) to =
-    ap (posterior prior) (listed).evidence_is ∙ posterior_listed c.args.children.now c.args.book.now c.args.prior i to in
+    ap (posterior prior) at.evidence_is ∙ posterior_listed c.args.children.now c.args.book.now c.args.prior i to in
     rw is (rw c.read_u32.ensures at c.vector.ensures)
 
 pub returns-in-Unlisted : goal.returns-in-Unlisted

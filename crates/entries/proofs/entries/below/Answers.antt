@@ -18,8 +18,7 @@ returns-then-node-key c =
     let s = c.args.book.now in
     let a = 24 * c.args.i in
     let key = c.args.key in
-    let by_parts : ltb (key_at s a) (key_value key) ≡ ltb (rank_at s a) key.node || (eqb (rank_at s a) key.node && (ltb (word s (a + 8)) key.kind || (eqb (word s (a + 8)) key.kind && ltb (rank_at s (a + 12)) key.child))) =
-    order_at s c.shared_slice_known-1.given a key (omega arith) (omega arith) in
+    let by_parts = order_at s c.shared_slice_known-1.given a key (omega arith) (omega arith) in
     rw (by_parts, lt-ltb (rank_at s a) key.node (omega arith))
 
 pub returns-then-key-node : goal.returns-then-key-node
@@ -27,8 +26,7 @@ returns-then-key-node c =
     let s = c.args.book.now in
     let a = 24 * c.args.i in
     let key = c.args.key in
-    let by_parts : ltb (key_at s a) (key_value key) ≡ ltb (rank_at s a) key.node || (eqb (rank_at s a) key.node && (ltb (word s (a + 8)) key.kind || (eqb (word s (a + 8)) key.kind && ltb (rank_at s (a + 12)) key.child))) =
-    order_at s c.shared_slice_known-1.given a key (omega arith) (omega arith) in
+    let by_parts = order_at s c.shared_slice_known-1.given a key (omega arith) (omega arith) in
     rw (by_parts, le-ltb (rank_at s a) key.node (omega arith), ne_eqb (rank_at s a) key.node (λ e. omega arith))
 
 pub returns-then-kind-key : goal.returns-then-kind-key
@@ -36,8 +34,7 @@ returns-then-kind-key c =
     let s = c.args.book.now in
     let a = 24 * c.args.i in
     let key = c.args.key in
-    let by_parts : ltb (key_at s a) (key_value key) ≡ ltb (rank_at s a) key.node || (eqb (rank_at s a) key.node && (ltb (word s (a + 8)) key.kind || (eqb (word s (a + 8)) key.kind && ltb (rank_at s (a + 12)) key.child))) =
-    order_at s c.shared_slice_known-1.given a key (omega arith) (omega arith) in
+    let by_parts = order_at s c.shared_slice_known-1.given a key (omega arith) (omega arith) in
     rw (by_parts, le-ltb (rank_at s a) key.node (omega arith), eq-eqb (rank_at s a) key.node (omega arith), lt-ltb (word s (a + 8)) key.kind (omega arith))
 
 pub returns-then-key-kind : goal.returns-then-key-kind
@@ -45,8 +42,7 @@ returns-then-key-kind c =
     let s = c.args.book.now in
     let a = 24 * c.args.i in
     let key = c.args.key in
-    let by_parts : ltb (key_at s a) (key_value key) ≡ ltb (rank_at s a) key.node || (eqb (rank_at s a) key.node && (ltb (word s (a + 8)) key.kind || (eqb (word s (a + 8)) key.kind && ltb (rank_at s (a + 12)) key.child))) =
-    order_at s c.shared_slice_known-1.given a key (omega arith) (omega arith) in
+    let by_parts = order_at s c.shared_slice_known-1.given a key (omega arith) (omega arith) in
     rw (by_parts, le-ltb (rank_at s a) key.node (omega arith), eq-eqb (rank_at s a) key.node (omega arith), le-ltb (word s (a + 8)) key.kind (omega arith), ne_eqb (word s (a + 8)) key.kind (λ e. omega arith))
 
 pub returns : goal.returns
@@ -54,6 +50,5 @@ returns c =
     let s = c.args.book.now in
     let a = 24 * c.args.i in
     let key = c.args.key in
-    let by_parts : ltb (key_at s a) (key_value key) ≡ ltb (rank_at s a) key.node || (eqb (rank_at s a) key.node && (ltb (word s (a + 8)) key.kind || (eqb (word s (a + 8)) key.kind && ltb (rank_at s (a + 12)) key.child))) =
-    order_at s c.shared_slice_known-1.given a key (omega arith) (omega arith) in
+    let by_parts = order_at s c.shared_slice_known-1.given a key (omega arith) (omega arith) in
     rw (by_parts, le-ltb (rank_at s a) key.node (omega arith), eq-eqb (rank_at s a) key.node (omega arith), le-ltb (word s (a + 8)) key.kind (omega arith), eq-eqb (word s (a + 8)) key.kind (omega arith), c.rank_at-child.ensures)

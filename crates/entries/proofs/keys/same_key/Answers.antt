@@ -14,8 +14,7 @@ unfolding key_value
 returns-then-a-b c =
     let a = c.args.a in
     let b = c.args.b in
-    let by_parts : eqb (key_value a) (key_value b) ≡ eqb a.node b.node && (eqb a.kind b.kind && eqb a.child b.child) =
-    key_same a.node a.kind a.child b.node b.kind b.child (omega arith) (omega arith) (omega arith) (omega arith) in
+    let by_parts = key_same a.node a.kind a.child b.node b.kind b.child (omega arith) (omega arith) (omega arith) (omega arith) in
     rw (by_parts, ne_eqb c.args.a.node c.args.b.node c.if-a-b.true)
 
 pub returns-then-a-b-2 : goal.returns-then-a-b-2
@@ -23,8 +22,7 @@ unfolding key_value
 returns-then-a-b-2 c =
     let a = c.args.a in
     let b = c.args.b in
-    let by_parts : eqb (key_value a) (key_value b) ≡ eqb a.node b.node && (eqb a.kind b.kind && eqb a.child b.child) =
-    key_same a.node a.kind a.child b.node b.kind b.child (omega arith) (omega arith) (omega arith) (omega arith) in
+    let by_parts = key_same a.node a.kind a.child b.node b.kind b.child (omega arith) (omega arith) (omega arith) (omega arith) in
     rw (by_parts, eq-eqb c.args.a.node c.args.b.node (omega arith), ne_eqb c.args.a.kind c.args.b.kind c.if-a-b-2.true)
 
 pub returns : goal.returns
@@ -32,6 +30,5 @@ unfolding key_value
 returns c =
     let a = c.args.a in
     let b = c.args.b in
-    let by_parts : eqb (key_value a) (key_value b) ≡ eqb a.node b.node && (eqb a.kind b.kind && eqb a.child b.child) =
-    key_same a.node a.kind a.child b.node b.kind b.child (omega arith) (omega arith) (omega arith) (omega arith) in
+    let by_parts = key_same a.node a.kind a.child b.node b.kind b.child (omega arith) (omega arith) (omega arith) (omega arith) in
     rw (by_parts, eq-eqb c.args.a.node c.args.b.node (omega arith), eq-eqb c.args.a.kind c.args.b.kind (omega arith))
