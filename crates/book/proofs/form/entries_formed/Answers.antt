@@ -3,9 +3,7 @@
 use Prim.Native.Nat.{◌*◌}
 use mathlib.Core.Path.{◌≡◌, sym, ◌∙◌}
 use native.Mathlib.Omega.{arith}
-use Rattle.priors.specs.Rows.{row}
 use Rattle.entries.specs.Keys.{kind_of, key_value}
-use Rattle.entries.specs.Entries.{row_at}
 use Rattle.book.proofs.FormLaws.{kind_is, row_read, none, start_plain, start_ending, start_on, turn_plain, turn_follows, turn_on, done}
 use Rattle.book.proofs.form.entries_formed.Goals as goal
 

@@ -1,13 +1,9 @@
 -- Nodes are compared first, then kinds, then children; each return has the tests that led to it.
 -- Assumes nothing.
-use mathlib.Core.Path.{◌≡◌, sym}
-use mathlib.Core.Bool.{◌&&◌, ◌||◌}
+use mathlib.Core.Path.{sym}
 use native.Mathlib.Omega.{arith}
-use lib.Dec.{ltb, eqb}
+use lib.Dec.{ltb}
 use borrow.Author.Tests.{lt-ltb, le-ltb, eq-eqb, ne_eqb}
-use Rattle.priors.specs.Rows.{row}
-use Rattle.entries.specs.Keys.{key_value}
-use Rattle.book.specs.Form.{follows}
 use Rattle.book.proofs.FormLaws.{and_true, follows_is}
 use Rattle.book.proofs.form.follows.Goals as goal
 

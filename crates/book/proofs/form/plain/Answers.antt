@@ -1,16 +1,9 @@
 -- The key's fields and the count decide; each return has the tests that led to it.
 -- Assumes nothing.
-use mathlib.Core.Path.{◌≡◌}
-use mathlib.Core.Bool.{◌&&◌, ◌||◌}
 use Prim.Native.Nat.{◌^◌}
 use native.Mathlib.Omega.{arith}
-use lib.Dec.{leb, eqb}
 use borrow.Author.Tests.{le-leb, lt-leb, eq-eqb, ne_eqb}
 use Rattle.priors.specs.Address.{rank, lift}
-use Rattle.priors.specs.Rows.{row}
-use Rattle.entries.specs.Limits.{max_count}
-use Rattle.entries.specs.Keys.{key_value, no_child}
-use Rattle.book.specs.Form.{plain}
 use Rattle.book.proofs.FormLaws.{plain_is}
 use Rattle.book.proofs.form.plain.Goals as goal
 

@@ -1,15 +1,14 @@
 -- A child that is found has its node's ending listed, so that touching that would change nothing. A missing one comes in behind the ending, at its place moved by it.
 -- Assumes nothing.
 use mathlib.Core.Path.{refl}
-use mathlib.Core.Bool.{true, false}
 use mathlib.Core.Option.{some}
-use Prim.Native.Nat.{◌+◌, ◌-◌, ◌^◌, ◌≤◌}
+use Prim.Native.Nat.{◌+◌, ◌-◌, ◌^◌}
 use native.Mathlib.Omega.{arith}
 use Rattle.priors.specs.Rows.{touch}
 use Rattle.priors.proofs.RowLaws.{grows}
-use Rattle.priors.proofs.ByPlace.{Spot, look_spot}
+use Rattle.priors.proofs.ByPlace.{look_spot}
 use Rattle.entries.specs.Keys.{end_key, child_key}
-use Rattle.entries.specs.Entries.{rows, entry_count_at, Rewritten}
+use Rattle.entries.specs.Entries.{rows, entry_count_at}
 use Rattle.book.proofs.ListingForm.{end_below_child}
 use Rattle.book.proofs.EndingLaws.{ending_touched}
 use Rattle.entries.proofs.BookLaws.{spot_at, spot_missing, key_in_range, at_lt, count_at, changed_at, missing_le, length_in, changed_in}

@@ -4,7 +4,7 @@ use Rattle.priors.specs.Priors.{prior_of}
 use Rattle.divergence.specs.declared.evidence.Listed.{Listed}
 use Rattle.divergence.specs.Parts.{evidence_at}
 use Rattle.divergence.specs.Divergence.{node_divergence}
-use Rattle.divergence.specs.Listing.{ListedAt, IsListed}
+use Rattle.divergence.specs.Listing.{IsListed}
 use Rattle.divergence.specs.Readings.{divergence_reading, of_listed}
 use Rattle.divergence.proofs.kl_readings.listed_kl.Goals as goal
 

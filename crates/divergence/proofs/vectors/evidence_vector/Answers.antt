@@ -8,7 +8,7 @@ use Rattle.divergence.specs.Nodes.{listed_nodes, evidence_of}
 use Rattle.divergence.specs.Parts.{evidence_at}
 use Rattle.divergence.specs.Probability.{evidence_prob_vector}
 use Rattle.divergence.specs.Merge.{merged_counts}
-use Rattle.divergence.specs.Listing.{ListedAt, IsListed}
+use Rattle.divergence.specs.Listing.{IsListed}
 use Rattle.divergence.proofs.NodeLaws.{evidence_total_lem}
 use Rattle.divergence.proofs.VectorLaws.{listed_mergeable, no_links, no_chain_length, evidence_merged, total_none, total_some, unlisted_none}
 use Rattle.divergence.proofs.vectors.evidence_vector.Goals as goal

@@ -7,7 +7,7 @@ use Rattle.divergence.specs.declared.evidence.Listed.{Listed}
 use Rattle.divergence.specs.Nodes.{listed_nodes, evidence_of}
 use Rattle.divergence.specs.Probability.{posterior}
 use Rattle.divergence.specs.Merge.{merged_counts}
-use Rattle.divergence.specs.Listing.{ListedAt, IsListed}
+use Rattle.divergence.specs.Listing.{IsListed}
 use Rattle.divergence.proofs.VectorLaws.{listed_mergeable, unlisted_mergeable, posterior_listed, posterior_unlisted}
 use Rattle.divergence.proofs.vectors.posterior_vector.Goals as goal
 

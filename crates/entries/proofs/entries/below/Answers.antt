@@ -1,15 +1,10 @@
 -- Keys order by their parts; each return has the tests that led to it.
 -- Assumes nothing.
-use mathlib.Core.Path.{◌≡◌}
-use mathlib.Core.Bool.{◌&&◌, ◌||◌}
 use Prim.Native.Nat.{◌+◌, ◌*◌}
 use native.Mathlib.Omega.{arith}
-use lib.Dec.{ltb, eqb}
 use borrow.Author.Tests.{lt-ltb, le-ltb, eq-eqb, ne_eqb}
 use Rattle.priors.specs.Word.{word}
 use Rattle.priors.specs.Address.{rank_at}
-use Rattle.entries.specs.Keys.{key_value}
-use Rattle.entries.specs.Entries.{key_at}
 use Rattle.entries.proofs.EntryLaws.{order_at}
 use Rattle.entries.proofs.entries.below.Goals as goal
 

@@ -1,8 +1,5 @@
 -- Keys are the same where their parts are; each return has the tests that led to it.
 -- Assumes nothing.
-use mathlib.Core.Path.{◌≡◌}
-use mathlib.Core.Bool.{◌&&◌}
-use lib.Dec.{eqb}
 use native.Mathlib.Omega.{arith}
 use borrow.Author.Tests.{eq-eqb, ne_eqb}
 use Rattle.entries.specs.Keys.{key_value}
