@@ -12,17 +12,19 @@ use Rattle.priors.specs.Priors.{prior_of}
 use Rattle.entries.specs.Keys.{kind_of, node_of}
 use Rattle.entries.specs.Entries.{rows}
 use Rattle.entries.proofs.EntryLaws.{length_rows}
-use Rattle.divergence.specs.declared.divergences.NodeDivergence.{NodeDivergence}
-use Rattle.divergence.specs.declared.divergences.NodeDivergence.TheVariants.{Value, NoPrior, MissingChild, PastTable}
+use Rattle.std.specs.Prelude.{Option, None, Some, Result, Ok, Err}
+use Rattle.priors.specs.declared.refusals.NodeReason.{NodeReason}
+use Rattle.priors.specs.declared.refusals.NodeReason.TheVariants.{MissingChild, PastTable}
 use Rattle.divergence.specs.declared.statistics.KLDivergenceStats.{KLDivergenceStats}
 use Rattle.divergence.specs.Numbers.{tiny64}
 use Rattle.divergence.specs.Nodes.{Node, child_row, spread, listed_nodes}
-use Rattle.divergence.specs.Parts.{nodes_from}
 use Rattle.divergence.specs.Divergence.{node_divergence}
-use Rattle.divergence.specs.Statistics.{Place, Walk, stopped, walked, visited, walk, no_stats, counted, noted, stats_over}
+use Rattle.divergence.specs.Statistics.{Place, Walk, stopped, walked, visited, walk, walk_over, no_stats, counted, noted, stats_over}
 use Rattle.divergence.specs.Readings.{Reading, answered, Statistics, stats_reading_of}
+use Rattle.book.specs.declared.form.Listing.{Listing}
+use Rattle.baseline.specs.declared.training.Training.{Training}
 use Rattle.baseline.specs.Training.{recorded}
-use Rattle.baseline.specs.Courses.{book_stats}
+use Rattle.baseline.specs.Courses.{lent_in, book_stats}
 
 -- ---- nodes and their entries
 
@@ -42,13 +44,13 @@ abbrev places : Walk → List Place
 places (stopped n node) = []
 places (walked ps k) = ps
 
-visited_le : (node : ℕ) (x : NodeDivergence) (rest : Walk) (n : ℕ) → length (places rest) ≤ n → length (places (visited node x rest)) ≤ suc n
-visited_le node (Value x) (stopped m a) n h = zero-le
-visited_le node (Value x) (walked ps k) n h = omega arith
-visited_le node NoPrior (stopped m a) n h = zero-le
-visited_le node NoPrior (walked ps k) n h = omega arith
-visited_le node MissingChild rest n h = zero-le
-visited_le node PastTable rest n h = zero-le
+visited_le : (node : ℕ) (x : Result (Option Float) NodeReason) (rest : Walk) (n : ℕ) → length (places rest) ≤ n → length (places (visited node x rest)) ≤ suc n
+visited_le node (Ok (Some x)) (stopped m a) n h = zero-le
+visited_le node (Ok (Some x)) (walked ps k) n h = omega arith
+visited_le node (Ok None) (stopped m a) n h = zero-le
+visited_le node (Ok None) (walked ps k) n h = omega arith
+visited_le node (Err MissingChild) rest n h = zero-le
+visited_le node (Err PastTable) rest n h = zero-le
 
 places_le : (G D : List Float) (nodes children : List ℕ) (layer : ℕ) (ns : List Node) → length (places (walk G D nodes children layer ns)) ≤ length ns
 unfolding walk
@@ -85,13 +87,18 @@ counted_le G D nodes children layer rs paths a e =
 
 -- ---- the statistics of the used entries
 
-module _ (G D : List Float) (nodes children : List ℕ) (layer : ℕ) (book : List ℕ) (used paths : ℕ) (r : Reading Statistics) (is : r ≡ stats_reading_of paths (walk G D nodes children layer (nodes_from book 0 used))) where
-  all_entries : r ≡ stats_reading_of paths (walk G D nodes children layer (listed_nodes (rows book used)))
-  all_entries = let e : used - 0 ≡ used = omega arith in is ∙ ap (λ (n : ℕ). stats_reading_of paths (walk G D nodes children layer (listed_nodes (rows book n)))) e
+module _ (t : Training) (l : Listing) (paths : ℕ) (r : Reading Statistics) (is : r ≡ stats_reading_of paths (walk_over t.tables t.priors l)) where
+  all_entries : r ≡ stats_reading_of paths (walk t.tables.g.now t.tables.d.now t.priors.nodes.now t.priors.children.now t.priors.layer (listed_nodes (rows l.bytes.now l.used)))
+  all_entries =
+      let e : l.used - 0 ≡ l.used = omega arith in
+      is ∙ ap (λ (n : ℕ). stats_reading_of paths (walk t.tables.g.now t.tables.d.now t.priors.nodes.now t.priors.children.now t.priors.layer (listed_nodes (rows l.bytes.now n)))) e
 
-  pub stats_read : book_stats G D nodes children layer (rows book used) paths ≡ recorded r
+  pub stats_read : book_stats (lent_in t) (rows l.bytes.now l.used) paths ≡ recorded r
   unfolding book_stats
-  stats_read = ap recorded (sym all_entries)
+  stats_read =
+      ap (λ (layer : ℕ). recorded (stats_reading_of paths (walk t.tables.g.now t.tables.d.now t.priors.nodes.now t.priors.children.now layer (listed_nodes (rows l.bytes.now l.used))))) t.floored
+      ∙ ap recorded (sym all_entries)
 
-  pub few_counted : (a : Statistics) → r ≡ answered a → a.stats.nz_count ≤ used
-  few_counted a e = omega (arith, counted_le G D nodes children layer (rows book used) paths a (sym e ∙ all_entries), length_rows book used)
+  pub few_counted : (a : Statistics) → r ≡ answered a → a.stats.nz_count ≤ l.used
+  few_counted a e =
+      omega (arith, counted_le t.tables.g.now t.tables.d.now t.priors.nodes.now t.priors.children.now t.priors.layer (rows l.bytes.now l.used) paths a (sym e ∙ all_entries), length_rows l.bytes.now l.used)

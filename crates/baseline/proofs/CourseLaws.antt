@@ -6,13 +6,14 @@ use Prim.Native.Nat.{ℕ, zero, suc, ◌+◌, ◌-◌, ◌/◌, ◌%◌, ◌≤�
 use native.Mathlib.Numerals.{add-one}
 use native.Mathlib.Omega.{arith}
 use mathlib.Core.List.{List}
-use mathlib.Core.Option.{Option, none}
+use Rattle.std.specs.Prelude.{Option, None}
 use lib.Dec.{eqb}
 use lib.Ieee.{Float}
 use borrow.Author.Tests.{eqb-true}
 use Rattle.priors.specs.declared.addresses.Address.{Address}
-use Rattle.priors.specs.declared.refusals.Refusal.{Refusal}
-use Rattle.priors.specs.Refusals.{number_of, named_node}
+use Rattle.priors.specs.declared.refusals.Reason.{Reason}
+use Rattle.priors.specs.declared.refusals.Refusal.TheVariants.{Plain}
+use Rattle.priors.specs.Refusals.{reason_number}
 use Rattle.book.specs.Claims.{restarted}
 use Rattle.divergence.specs.declared.statistics.KLDivergenceStats.{KLDivergenceStats}
 use Rattle.baseline.specs.Training.{Lent, Input, Until, stopped, reached, and_then, recount_stats, unless_stopped, records_from, sequence_records, all_records, add_records, add_all}
@@ -29,13 +30,13 @@ onward (reached values) f = f values
 
 -- ---- one path
 
-unless_stops : {X : Type 0} (r : Refusal) (rest : Until X) → unless_stopped (number_of r) rest ≡ stopped (number_of r) none
-unless_stops {X} r rest = by_number (λ (n : ℕ). unless_stopped n rest) (λ (n : ℕ). stopped n none) (λ m. refl) r
+unless_stops : {X : Type 0} (r : Reason) (rest : Until X) → unless_stopped (reason_number r) rest ≡ stopped (reason_number r) None
+unless_stops {X} r rest = by_number (λ (n : ℕ). unless_stopped n rest) (λ (n : ℕ). stopped n None) (λ m. refl) (Plain r)
 
 module _ (x : Lent) (first i size : ℕ) (values : List Float) where
-  pub refused_path : (r : Refusal) → path_number x.sequences first i size ≡ number_of r → named_node r ≡ none → one_path x first i size values ≡ stopped (number_of r) (named_node r)
+  pub refused_path : (r : Reason) → path_number x.sequences first i size ≡ reason_number r → one_path x first i size values ≡ stopped (reason_number r) None
   unfolding one_path
-  refused_path r e node = rw (e, node) (unless_stops r _)
+  refused_path r e = rw e (unless_stops r _)
 
   pub added_path : path_number x.sequences first i size ≡ 0 → one_path x first i size values ≡ sampled x.rate i (recount_stats x (recount_of x.sequences first (suc i) size)) values
   unfolding one_path
@@ -88,8 +89,8 @@ module _ (x : Lent) (first size : ℕ) where
         ∙ ap (λ (y : Values). onward (unless_stopped number y) (left n (suc i))) (sampled_is i q values b refl))
 
     module _ (n i : ℕ) (l : i < n) (values : List Float) where
-      pub path_stops : (number : ℕ) (node : Option Address) → one_path x first i size values ≡ stopped number node → left n i values ≡ stopped number node
-      path_stops number node h = next n i l values ∙ ap (λ (y : Values). onward y (left n (suc i))) h
+      pub path_stops : (number : ℕ) (place : Option Address) → one_path x first i size values ≡ stopped number place → left n i values ≡ stopped number place
+      path_stops number place h = next n i l values ∙ ap (λ (y : Values). onward y (left n (suc i))) h
 
       pub path_goes : (after : List Float) → one_path x first i size values ≡ reached after → left n i values ≡ left n (i + 1) after
       path_goes after h = next n i l values ∙ ap (λ (y : Values). onward y (left n (suc i))) h ∙ ap (λ (j : ℕ). left n j after) (sym (add-one i))
@@ -115,8 +116,8 @@ module _ (x : Input) (size : ℕ) where
       rw e (one_more_sequence (sequence_records x size q) (all_records x size (suc q) (x.s - suc q)) values)
 
   module _ (q : ℕ) (l : q < x.s) (values : List Float) where
-    pub sequence_stops : (number : ℕ) (node : Option Address) → entered 0 (sequence_records x size q) values ≡ stopped number node → all_values_left q values ≡ stopped number node
-    sequence_stops number node h = next_sequence q l values ∙ ap (λ (y : Values). onward y (all_values_left (suc q))) h
+    pub sequence_stops : (number : ℕ) (place : Option Address) → entered 0 (sequence_records x size q) values ≡ stopped number place → all_values_left q values ≡ stopped number place
+    sequence_stops number place h = next_sequence q l values ∙ ap (λ (y : Values). onward y (all_values_left (suc q))) h
 
     pub sequence_goes : (after : List Float) → entered 0 (sequence_records x size q) values ≡ reached after → all_values_left q values ≡ all_values_left (q + 1) after
     sequence_goes after h = next_sequence q l values ∙ ap (λ (y : Values). onward y (all_values_left (suc q))) h ∙ ap (λ (j : ℕ). all_values_left j after) (sym (add-one q))

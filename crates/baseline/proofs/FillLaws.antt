@@ -3,18 +3,13 @@ use mathlib.Core.Path.{◌≡◌, refl, sym, ap, ap₂, ◌∙◌}
 use Prim.Native.Nat.{ℕ, zero, suc, ◌+◌, ◌≤◌, ◌<◌}
 use native.Mathlib.Numerals.{add-one}
 use native.Mathlib.Omega.{arith}
-use mathlib.Core.List.{List, [], ◌∷◌, ◌++◌, append-nil}
-use lib.ListN.{length, get_or, take, drop, set, replicate, length-take, drop_of_length-le}
+use mathlib.Core.List.{List, [], ◌∷◌, ◌++◌}
+use lib.ListN.{length, get_or, take, drop, set, replicate, length-append, length-take, length-drop}
 use lib.Seq.{drop-cons, set_at, append_snoc}
 use Rattle.priors.specs.Below.{list_of}
 use Rattle.priors.proofs.BelowLaws.{length_list_of}
 
 module _ {X : Type 0} where
-  -- one value throughout
-  pub same_value : (n : ℕ) (a : X) → list_of n (λ k. a) ≡ replicate n a
-  same_value zero a = refl
-  same_value (suc n) a = ap (λ (l : List X). a ∷ l) (same_value n a)
-
   list_of_more : (n : ℕ) (f : ℕ → X) → list_of (suc n) f ≡ list_of n f ++ f n ∷ []
   list_of_more zero f = refl
   list_of_more (suc n) f = ap (λ (l : List X). f 0 ∷ l) (list_of_more n (λ k. f (suc k)))
@@ -28,13 +23,14 @@ module _ {X : Type 0} where
         ∙ ap (λ (l : List X). l ++ drop (suc i) s₀) (sym (list_of_more i f))
         ∙ ap (λ (k : ℕ). list_of k f ++ drop k s₀) (sym (add-one i))
 
-    pub fill_done : length s₀ ≡ i → s ≡ list_of (length s₀) f
-    fill_done n =
-        let past : length s₀ ≤ i = omega arith in
-        so_far ∙ ap (λ (l : List X). list_of i f ++ l) (drop_of_length-le s₀ past) ∙ append-nil (list_of i f) ∙ ap (λ (k : ℕ). list_of k f) (sym n)
-
   -- a part at the start that is filled with one value
   pub part_filled : (a : X) (s z : List X) (k n : ℕ) → k ≡ n → n ≤ length s → z ≡ replicate (length (take k s)) a → z ++ drop k s ≡ replicate n a ++ drop n s
   part_filled a s z k n e h is =
       let l : length (take k s) ≡ n = simp length-take (omega arith) in
       ap₂ (λ (x : List X) (m : ℕ). x ++ drop m s) (is ∙ ap (λ (m : ℕ). replicate m a) l) e
+
+  -- and it keeps the length
+  pub part_length : (s z : List X) (n : ℕ) → n ≤ length s → length z ≡ length (take n s) → length (z ++ drop n s) ≡ length s
+  part_length s z n h e =
+      let l : length (take n s) ≡ n = simp length-take (omega arith) in
+      omega (arith, length-append z (drop n s), length-drop n s)

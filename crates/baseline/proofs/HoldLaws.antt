@@ -27,11 +27,11 @@ use Rattle.book.proofs.Image.{ascends_rows}
 use Rattle.book.proofs.Step.{rows_step}
 use Rattle.book.proofs.BookImage.{length_image, length_listing, formed_image}
 use Rattle.book.proofs.FormLaws.{formed_counts}
-use Rattle.book.proofs.BatchLaws.{path_bytes}
 use Rattle.book.proofs.EndingLaws.{formed_endings}
 use Rattle.book.proofs.RefusalLaws.{book_fits_lem, path_fits}
 use Rattle.book.proofs.Kept.{Sizes, Kept, open_sizes, add_taken, kept_joined}
-use Rattle.priors.specs.Priors.{layer_of}
+use Rattle.priors.specs.Tables.{tables_refusal}
+use Rattle.priors.specs.Priors.{layer_of, priors_refusal}
 use Rattle.baseline.specs.Limits.{max_paths}
 use Rattle.divergence.specs.Nodes.{Node, listed_nodes}
 use Rattle.divergence.specs.RecountNodes.{recount_nodes}
@@ -40,7 +40,8 @@ use Rattle.divergence.specs.Readings.{stats_reading_of, stats_reading}
 use Rattle.divergence.proofs.RecountNodeLaws.{listed_nodes_lem}
 use Rattle.divergence.specs.declared.statistics.KLDivergenceStats.{KLDivergenceStats}
 use Rattle.baseline.specs.Training.{Lent, Until, recorded, recount_stats}
-use Rattle.baseline.specs.Courses.{Accepted, paths_of, recount_of, Holds, path_number, sampled, book_stats, one_path}
+use Rattle.baseline.specs.declared.training.Training.{Training}
+use Rattle.baseline.specs.Courses.{lent_in, paths_of, recount_of, Holds, path_number, sampled, book_stats, one_path}
 use Rattle.baseline.proofs.CourseLaws.{added_path}
 
 -- ---- bytes
@@ -77,6 +78,9 @@ module _ (sequences : List ℕ) (first i : ℕ) (few : i ≤ max_paths) (book : 
         whole = h.whole;
         ranks = h.ranks;
       }
+
+  pub few_entries : used ≤ 16384
+  few_entries = let s = sizes_fit book h.book_sized in omega (arith, h.used_fit)
 
   pub held_ascends : Ascends 0 (keys (rows book used))
   held_ascends = rw h.rows_are (ascends_rows 0 (paths_of sequences first i) (paths_of sequences first i))
@@ -119,7 +123,7 @@ module _ (sequences : List ℕ) (first i : ℕ) (few : i ≤ max_paths) (book : 
           let l : length (touch_all (listed_keys (path_of (path_in sequences (first + i)))) (rows book used)) ≤ length book / 24 = leb-true _ _ (sym room-is ∙ fits) in
           omega arith
 
-      pub held_next : (bytes : Bytes sequences) (after : List ℕ) (n : ℕ) → length after ≡ length book
+      pub held_next : (bytes : All (λ b. b < 256) (path_in sequences (first + i))) (after : List ℕ) (n : ℕ) → length after ≡ length book
           → Rewritten book after n (bump_all (counted_keys (path_of (path_in sequences (first + i)))) (touch_all (listed_keys (path_of (path_in sequences (first + i)))) (rows book used)))
           → Holds sequences first (suc i) after n
       unfolding paths_of add_rows leaving_path change_all
@@ -129,7 +133,7 @@ module _ (sequences : List ℕ) (first i : ℕ) (few : i ≤ max_paths) (book : 
           let rows_next : bump_all (counted_keys p) (touch_all (listed_keys p) (rows book used)) ≡ rows_of 0 (paths ++ p ∷ []) (paths ++ p ∷ []) =
           ap (λ (rs : List Row). bump_all (counted_keys p) (touch_all (listed_keys p) rs)) h.rows_are ∙ sym (rows_step 0 paths paths (window_drop 0 paths) p) in
           let k : Kept (joined (recount_of sequences first i (length book)) p) =
-          kept_joined (recount_of sequences first i (length book)) (path_in sequences (first + i)) kept (path_bytes sequences (first + i) (bytes_all sequences bytes))
+          kept_joined (recount_of sequences first i (length book)) (path_in sequences (first + i)) kept bytes
           (add_taken (recount_of sequences first i (length book)) (path_in sequences (first + i)) taken) in
           let n-is : n ≡ length (listing (paths ++ p ∷ [])) = w.number_is ∙ ap length rows_next ∙ length_image 0 (paths ++ p ∷ []) (paths ++ p ∷ []) in
           record {
@@ -147,12 +151,18 @@ held_none sequences first book h = record { book_sized = h; used_fit = zero-le; 
 
 -- ---- the statistics
 
-module _ (x : Lent) (accepted : Accepted x) (first i : ℕ) (few : i ≤ max_paths) (book : List ℕ) (used : ℕ) (h : Holds x.sequences first i book used) where
-  pub few_entries : used ≤ 16384
-  few_entries = let s = sizes_fit book h.book_sized in omega (arith, h.used_fit)
+-- no number below 9 turns what is lent back
+pub record Accepted (x : Lent) : Type 0 where
+  pub tables_fit : tables_refusal x.G x.D ≡ 0
+  pub priors_fit : priors_refusal x.nodes x.children (layer_of x.floor) ≡ 0
 
+-- nor what the code holds
+pub accepted_in : (t : Training) → Accepted (lent_in t)
+accepted_in t = record { tables_fit = t.tables.passed; priors_fit = ap (priors_refusal t.priors.nodes.now t.priors.children.now) t.floored ∙ t.priors.passed }
+
+module _ (x : Lent) (accepted : Accepted x) (first i : ℕ) (few : i ≤ max_paths) (book : List ℕ) (used : ℕ) (h : Holds x.sequences first i book used) where
   -- the recount's are those of the book's entries
-  pub stats_are : recount_stats x (recount_of x.sequences first i (length book)) ≡ book_stats x.G x.D x.nodes x.children (layer_of x.floor) (rows book used) i
+  pub stats_are : recount_stats x (recount_of x.sequences first i (length book)) ≡ book_stats x (rows book used) i
   unfolding recount_stats book_stats stats_reading sequence_length window_part
   stats_are =
       let H : List Steps = paths_of x.sequences first i in
@@ -163,8 +173,8 @@ module _ (x : Lent) (accepted : Accepted x) (first i : ℕ) (few : i ≤ max_pat
 -- what one more path makes of the values, told from the book that holds it
 module _ (x : Lent) (accepted : Accepted x) (first i : ℕ) (few : i < max_paths) (book : List ℕ) (used : ℕ) (h : Holds x.sequences first (suc i) book used) where
   pub path_done : path_number x.sequences first i (length book) ≡ 0 → (values : List Float)
-      → one_path x first i (length book) values ≡ sampled x.rate i (book_stats x.G x.D x.nodes x.children (layer_of x.floor) (rows book used) (i + 1)) values
+      → one_path x first i (length book) values ≡ sampled x.rate i (book_stats x (rows book used) (i + 1)) values
   path_done e values =
       added_path x first i (length book) values e
       ∙ ap (λ (q : Until KLDivergenceStats). sampled x.rate i q values) (stats_are x accepted first (suc i) few book used h)
-      ∙ ap (λ (n : ℕ). sampled x.rate i (book_stats x.G x.D x.nodes x.children (layer_of x.floor) (rows book used) n) values) (sym (add-one i))
+      ∙ ap (λ (n : ℕ). sampled x.rate i (book_stats x (rows book used) n) values) (sym (add-one i))

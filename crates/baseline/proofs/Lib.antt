@@ -1,8 +1,9 @@
 -- `KnotLaws` has the laws of rising knots and of how many are not above a length.
 pub mod KnotLaws
--- Training: what is tested before; slices that are filled from their start; which paths are sampled; how it goes on path by path; what the book holds meanwhile;
+-- Training: what is tested before; what a refusal that is handed on is; slices that are filled from their start; which paths are sampled; how it goes on path by path; what the book holds meanwhile;
 -- how many divergences are counted; what is left in the end.
 pub mod InputLaws
+pub mod AnswerLaws
 pub mod FillLaws
 pub mod SampleLaws
 pub mod CourseLaws

@@ -4,12 +4,14 @@ use Prim.Native.Nat.{ℕ, ◌*◌, ◌/◌, ◌≤◌, min}
 use native.Mathlib.Omega.{arith}
 use mathlib.Core.Bool.{true}
 use mathlib.Core.List.{List, ◌++◌}
-use mathlib.Core.Option.{Option, none}
+use Rattle.std.specs.Prelude.{Option, None}
 use lib.ListN.{length, drop, replicate}
 use lib.Ieee.{Float}
 use Rattle.priors.specs.declared.addresses.Address.{Address}
 use Rattle.priors.specs.declared.refusals.Refusal.{Refusal}
-use Rattle.priors.specs.Refusals.{number_of, named_node}
+use Rattle.priors.specs.declared.refusals.Refusal.TheVariants.{Plain}
+use Rattle.priors.specs.declared.refusals.Reason.{Reason}
+use Rattle.priors.specs.Refusals.{reason_number, number_of, named_node}
 use Rattle.priors.specs.Tables.{tables_refusal}
 use Rattle.priors.specs.Priors.{layer_of, priors_refusal}
 use Rattle.book.specs.Form.{book_fits}
@@ -18,20 +20,14 @@ use Rattle.divergence.specs.declared.statistics.KLDivergenceStats.{KLDivergenceS
 use Rattle.divergence.specs.Numbers.{zero64}
 use Rattle.divergence.specs.Readings.{refused, answered}
 use Rattle.baseline.specs.Training.{Input, Until, stopped, reached, knot_room, sizes_refusal, train_refusal, add_all, started, knot_lengths, course, knots_of, train_asked}
-use Rattle.baseline.specs.Courses.{Accepted, all_entered}
+use Rattle.baseline.specs.Courses.{all_entered}
 use Rattle.priors.proofs.RuleLaws.{some_number}
-use Rattle.baseline.proofs.InputLaws.{three_passed, sizes_passed, rate_some, few_sequences, few_paths, few_knots, size_is}
+use Rattle.baseline.proofs.InputLaws.{three_passed, sizes_passed}
 
 -- ---- what no refusal tells
 
 pub record Passed (x : Input) (book knots : List ℕ) (values : List Float) : Type 0 where
-  pub accepted : Accepted x.lent
   pub book_sized : book_fits book ≡ true
-  pub size_is : length x.lent.sequences ≡ 516 * (x.s * x.n)
-  pub rate_some : 1 ≤ x.lent.rate
-  pub few_sequences : x.s ≤ 64
-  pub few_paths : x.n ≤ 65536
-  pub few_knots : knots_of x ≤ 1024
   pub knots_fit : knots_of x ≤ length knots
   pub values_fit : 10 * knots_of x ≤ length values
 
@@ -45,16 +41,9 @@ passed x book knots values h =
     three_passed (tables_refusal x.lent.G x.lent.D) (priors_refusal x.lent.nodes x.lent.children (layer_of x.lent.floor))
     (sizes_refusal x.lent.sequences x.s x.n x.lent.rate book (knot_room knots values)) h in
     let sizes = sizes_passed x.lent.sequences x.s x.n x.lent.rate book (knot_room knots values) numbers.2 in
-    let fits = sizes.input_held in
     let room = room_both (length knots) (length values) (knots_of x) sizes.room in
     record {
-      accepted = record { tables_fit = numbers.0; priors_fit = numbers.1 };
       book_sized = sizes.book_sized;
-      size_is = size_is x.lent.sequences x.s x.n x.lent.rate fits;
-      rate_some = rate_some x.lent.sequences x.s x.n x.lent.rate fits;
-      few_sequences = few_sequences x.lent.sequences x.s x.n x.lent.rate fits;
-      few_paths = few_paths x.lent.sequences x.s x.n x.lent.rate fits;
-      few_knots = few_knots x.lent.sequences x.s x.n x.lent.rate fits;
       knots_fit = room.0;
       values_fit = room.1;
     }
@@ -69,10 +58,10 @@ stops (stopped m a) values n at e = cc
 stops (reached rss) values n at e = let z : ◌≡◌ {A = ℕ} 0 1 = cc in absurd (omega arith)
 
 module _ (x : Input) (book knots : List ℕ) (values : List Float) where
-  pub refused_leaves : (r : Refusal) → number_of r ≡ train_refusal x book knots values → named_node r ≡ none
-      → record { answer = refused (number_of r) (named_node r); book = book; knots = knots; values = values } ≡ train_asked x book knots values
+  pub refused_leaves : (r : Reason) → reason_number r ≡ train_refusal x book knots values
+      → record { answer = refused (reason_number r) None; book = book; knots = knots; values = values } ≡ train_asked x book knots values
   unfolding train_asked
-  refused_leaves r e node = let m = some_number r in let number = sym e ∙ m.1 in rw (number, node, m.1)
+  refused_leaves r e = let m = some_number (Plain r) in let number = sym e ∙ m.1 in rw (number, m.1)
 
   module _ (none-refused : train_refusal x book knots values ≡ 0) where
     pub stopped_leaves : (r : Refusal) (after : List Float) → stopped (number_of r) (named_node r) ≡ all_entered (course x book) after

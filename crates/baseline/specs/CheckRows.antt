@@ -2,7 +2,7 @@
 -- equation about the definitions that the functions' contracts cite, figures by `≡`, and one proof shows that all hold. Assumes nothing.
 use Rattle.std.specs.Prelude.{◌≡◌, refl, ℕ, ◌+◌, ◌-◌, ◌*◌, ℤ, pos, negsuc, length, Float}
 use mathlib.Core.List.{List, [], ◌∷◌, ◌++◌, map, flat_map}
-use Rattle.std.proofs.Math.Option.{Option, none, some}
+use Rattle.std.specs.Prelude.{Option, None, Some}
 use Rattle.std.specs.Float.{binary64}
 use Rattle.std.specs.Float.Ieee.{add, sub, mul, div, le, of_int, of_bits}
 use Rattle.priors.specs.Below.{all_below, list_of}
@@ -40,7 +40,7 @@ use Rattle.divergence.specs.Answers.{VectorResult, AllResult}
 use Rattle.divergence.specs.Asked.{Seen, seen_of, Output, lent_output, Telling, prob_asked, evidence_asked, kl_asked, all_asked, stats_asked}
 use Rattle.divergence.specs.declared.statistics.KLDivergenceStats.{KLDivergenceStats}
 use Rattle.baseline.specs.declared.figures.MeanVar.{MeanVar}
-use Rattle.baseline.specs.declared.figures.KLDivergenceBaselineStats.{KLDivergenceBaselineStats}
+use Rattle.baseline.specs.declared.five.Five.{Five}
 use Rattle.baseline.specs.Sums.{added, sums_at, put_sums}
 use Rattle.book.specs.Batches as Batches
 use Rattle.baseline.specs.Training as Training
@@ -163,11 +163,11 @@ abbrev pub knot_over : List KLDivergenceStats → List Float
 knot_over records = add_all (map (λ (r : KLDivergenceStats). r ∷ []) records) (started 1 [])
 
 -- one sequence, with the means 8 at 1 and 10 at 11
-abbrev pub two_knots : ℕ → Reading KLDivergenceBaselineStats
+abbrev pub two_knots : ℕ → Reading (Five MeanVar)
 two_knots i = baseline_reading (1 ∷ 11 ∷ []) (knot_over (maximum 8 ∷ []) ++ knot_over (maximum 10 ∷ [])) 1 i
 
 -- one sequence, with one knot at 1
-abbrev pub one_knot : ℕ → Reading KLDivergenceBaselineStats
+abbrev pub one_knot : ℕ → Reading (Five MeanVar)
 one_knot i = baseline_reading (1 ∷ []) (knot_over (maximum 8 ∷ [])) 1 i
 
 -- a record of one divergence, after one path
@@ -175,8 +175,8 @@ abbrev pub of_one : ℕ → KLDivergenceStats
 of_one x = record { max = flt x; min = flt x; nz_count = 1; moment1_nz = flt x; moment2_nz = flt (x * x); sequence_len = 1 }
 
 -- mean and variance of the maxima
-abbrev pub maxima_of : Reading KLDivergenceBaselineStats → Reading MeanVar
-maxima_of r = mapped (λ (f : KLDivergenceBaselineStats). f.max) r
+abbrev pub maxima_of : Reading (Five MeanVar) → Reading MeanVar
+maxima_of r = mapped (λ (f : Five MeanVar). f.max) r
 
 abbrev pub mean_and : Float → Float → MeanVar
 mean_and mean variance = record { mean = mean; variance = variance }
@@ -192,17 +192,17 @@ abbrev pub knot_of : Float → Float → List Float
 knot_of sum squares = flat_map (λ (k : ℕ). sum ∷ squares ∷ []) (list_of 5 (λ k. k))
 
 -- all five figures alike
-abbrev pub alike : Float → Float → Reading KLDivergenceBaselineStats
+abbrev pub alike : Float → Float → Reading (Five MeanVar)
 alike mean variance =
     let p = mean_and mean variance in
     answered (record { max = p; min = p; nz_count = p; moment1_nz = p; moment2_nz = p })
 
 -- at the one knot of s sequences
-abbrev pub at_knot : Float → Float → ℕ → Reading KLDivergenceBaselineStats
+abbrev pub at_knot : Float → Float → ℕ → Reading (Five MeanVar)
 at_knot sum squares s = baseline_reading (1 ∷ []) (knot_of sum squares) s 1
 
 -- of one sequence, with two knots at 1 and 5
-abbrev pub along_knots : List Float → List Float → ℕ → Reading KLDivergenceBaselineStats
+abbrev pub along_knots : List Float → List Float → ℕ → Reading (Five MeanVar)
 along_knots left right i = baseline_reading (1 ∷ 5 ∷ []) (left ++ right) 1 i
 
 -- ---- the rows
@@ -215,8 +215,8 @@ Rows =
     ≡ record { answer = answered (record { places = 1; skipped = 1 }); output = lent_output (address_on 1 7 ++ list_of 16 (λ k. 5)) (flt 6 ∷ flt 5 ∷ flt 5 ∷ []) })
     × (kl_stats (tracker 3 (first ∷ [])) ≡ answered (record { stats = of_one 6; skipped = 1 }))
     -- then add (1,7): ending 1, (0,9) stays with 0, divergence 10, length 1
-    × (evidence (tracker 3 (first ∷ second ∷ [])) (rank 1 7) ≡ some (record { ending = 1; children = row (rank 0 9) 0 ∷ [] }))
-    × (evidence (tracker 3 (first ∷ second ∷ [])) (rank 0 9) ≡ some (record { ending = 0; children = [] }))
+    × (evidence (tracker 3 (first ∷ second ∷ [])) (rank 1 7) ≡ Some (record { ending = 1; children = row (rank 0 9) 0 ∷ [] }))
+    × (evidence (tracker 3 (first ∷ second ∷ [])) (rank 0 9) ≡ Some (record { ending = 0; children = [] }))
     × (kl (tracker 3 (first ∷ second ∷ [])) 7 (rank 1 7) ≡ answered (flt 10))
     × (kl_stats (tracker 3 (first ∷ second ∷ [])) ≡ answered (record { stats = of_one 10; skipped = 1 }))
     -- probabilities then 2/7, 3/7, ending 2/7; evidence of (0,9): none
@@ -224,7 +224,7 @@ Rows =
     ≡ record { answer = answered (record { places = 2; ending = fdiv (flt 2) (flt 7) }); output = lent_output (address_on 0 7 ++ (address_on 0 9 ++ list_of 8 (λ k. 5))) (fdiv (flt 2) (flt 7) ∷ fdiv (flt 3) (flt 7) ∷ flt 5 ∷ []) })
     × (evidence_only (tracker 3 (first ∷ second ∷ [])) (rank 0 9) ≡ record { answer = nothing; output = fives })
     -- tables ending at 6: 15, of the node (1,7)
-    × (kl (tracker 3 (first ∷ second ∷ [])) 6 (rank 1 7) ≡ refused 15 (some (record { scale = pos 1; point = 7 })))
+    × (kl (tracker 3 (first ∷ second ∷ [])) 6 (rank 1 7) ≡ refused 15 (Some (record { scale = pos 1; point = 7 })))
     -- the record at (-5,7) and the path (-4,7),(0,9): with floor -3 divergence 6, one skipped; with floor -4 both skipped
     × (stats_under (negsuc 2) ≡ answered (record { stats = of_one 6; skipped = 1 }))
     × (stats_under (negsuc 3) ≡ answered (record { stats = no_stats 1; skipped = 2 }))
@@ -233,14 +233,14 @@ Rows =
     × (two_under (negsuc 3) ≡ 0)
     -- children of (1,7), count and records read: of (0,7) 2 and 1, of (0,9) 3 and 2; of (-1,9), before the first, none and 1; of (0,8), between, and of (1,0),
     -- past the last, none and 2
-    × (child_of_node (rank 1 7) (rank 0 7) ≡ looked (some 2) 1)
-    × (child_of_node (rank 1 7) (rank 0 9) ≡ looked (some 3) 2)
-    × (child_of_node (rank 1 7) (rank 4294967295 9) ≡ looked none 1)
-    × (child_of_node (rank 1 7) (rank 0 8) ≡ looked none 2)
-    × (child_of_node (rank 1 7) (rank 1 0) ≡ looked none 2)
+    × (child_of_node (rank 1 7) (rank 0 7) ≡ looked (Some 2) 1)
+    × (child_of_node (rank 1 7) (rank 0 9) ≡ looked (Some 3) 2)
+    × (child_of_node (rank 1 7) (rank 4294967295 9) ≡ looked None 1)
+    × (child_of_node (rank 1 7) (rank 0 8) ≡ looked None 2)
+    × (child_of_node (rank 1 7) (rank 1 0) ≡ looked None 2)
     -- none and 0: in an empty chain, and where the node has no prior
-    × (child_of_leaf (rank 0 7) ≡ looked none 0)
-    × (child_of_node (rank 0 9) (rank 0 7) ≡ looked none 0)
+    × (child_of_leaf (rank 0 7) ≡ looked None 0)
+    × (child_of_node (rank 0 9) (rank 0 7) ≡ looked None 0)
     -- first add, book of two entries: 12; of three: taken
     × (first_add 2 ≡ 12)
     × (first_add 3 ≡ 0)
@@ -254,7 +254,7 @@ Rows =
     × (two_knots 0 ≡ alike zero64 zero64)
     -- one knot at 1: answered at 1, 18 at 2
     × (maxima_of (one_knot 1) ≡ answered (mean_and (flt 8) zero64))
-    × (one_knot 2 ≡ refused 18 none)
+    × (one_knot 2 ≡ refused 18 None)
     -- at a knot: a sum of minus zero, or of -5e-324 over two sequences, has the mean minus zero
     × (at_knot minus_zero64 zero64 1 ≡ alike minus_zero64 zero64)
     × (at_knot next_below zero64 2 ≡ alike minus_zero64 zero64)

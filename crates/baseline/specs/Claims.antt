@@ -2,7 +2,7 @@
 -- path, and `kl_div_stats` after each sampled one. What the machine answers to them, told up to the first refusal, is what `train` takes for that sequence's records.
 -- Assumes nothing.
 use Rattle.std.specs.Prelude.{ℕ, zero, suc, ◌+◌, ◌*◌, ◌%◌, ◌≤◌, ◌<◌, ◌≡◌, cond, List, [], ◌∷◌, map, eqb, length, Float, ℤ}
-use Rattle.std.proofs.Math.Option.{none}
+use Rattle.std.specs.Prelude.{None}
 use Rattle.priors.specs.Tables.{lent_tables}
 use Rattle.priors.specs.Priors.{lent_priors}
 use Rattle.book.specs.Figures.{All}
@@ -31,7 +31,7 @@ sequence_calls x book q = change (opening 0 book []) ∷ calls_from x.lent (q * 
 -- gives, it is as with `recorded`
 abbrev pub and_record : Reading Result → Until (List KLDivergenceStats) → Until (List KLDivergenceStats)
 and_record (refused n node) rest = stopped n node
-and_record nothing rest = stopped 0 none
+and_record nothing rest = stopped 0 None
 and_record (answered (vector v)) rest = rest
 and_record (answered (kl x)) rest = rest
 and_record (answered (all_kl a)) rest = rest

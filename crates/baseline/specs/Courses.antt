@@ -1,14 +1,13 @@
 -- Training path by path: what the book holds after some paths of a sequence, and what has become of the values by then. The contracts of training's inner functions
 -- cite these. Assumes nothing.
 use Rattle.std.specs.Prelude.{ℕ, zero, suc, ◌+◌, ◌*◌, ◌/◌, ◌%◌, ◌≤◌, ◌≡◌, true, cond, List, [], ◌∷◌, ◌++◌, eqb, length, Float}
-use Rattle.std.proofs.Math.Option.{Option, none}
-use Rattle.priors.specs.declared.addresses.Address.{Address}
-use Rattle.priors.specs.declared.refusals.Checked.{Checked}
-use Rattle.priors.specs.declared.refusals.Checked.TheVariants.{Passed, Refused}
+use Rattle.std.specs.Prelude.{Result, Ok, Err}
+use Rattle.priors.specs.declared.refusals.Refusal.{Refusal}
+use Rattle.priors.specs.declared.refusals.Reason.{Reason}
 use Rattle.priors.specs.Rows.{Row}
-use Rattle.priors.specs.Refusals.{number_of, named_node}
-use Rattle.priors.specs.Tables.{tables_refusal}
-use Rattle.priors.specs.Priors.{layer_of, priors_refusal}
+use Rattle.priors.specs.Refusals.{reason_number, number_of, named_node}
+use Rattle.priors.specs.Priors.{layer_of}
+use Rattle.priors.specs.Layer.{floor_of}
 use Rattle.entries.specs.Limits.{entry_size}
 use Rattle.entries.specs.Entries.{rows}
 use Rattle.book.specs.Path.{Steps, path_of}
@@ -22,21 +21,17 @@ use Rattle.divergence.specs.Statistics.{walk}
 use Rattle.divergence.specs.Readings.{stats_reading_of}
 use Rattle.divergence.specs.declared.statistics.KLDivergenceStats.{KLDivergenceStats}
 use Rattle.baseline.specs.Sums.{added, sums_at, put_sums}
-use Rattle.baseline.specs.Training.{Lent, Until, stopped, reached, recorded, recount_stats, unless_stopped, add_records, add_all}
-use Rattle.baseline.specs.declared.training.Entries.{Entries}
-use Rattle.baseline.specs.declared.training.Entries.TheVariants.{Used, Stopped}
+use Rattle.baseline.specs.Training.{Lent, lent_of, Input, Until, stopped, reached, recorded, recount_stats, unless_stopped, add_records, add_all}
+use Rattle.baseline.specs.declared.training.Training.{Training}
 
 -- ---- what is lent
 
--- no number below 9 turns them back
-pub record Accepted (x : Lent) : Type 0 where
-  pub tables_fit : tables_refusal x.G x.D ≡ 0
-  pub priors_fit : priors_refusal x.nodes x.children (layer_of x.floor) ≡ 0
+-- what the code holds of it, once tables, priors and sequences passed
+abbrev pub lent_in : Training → Lent
+lent_in t = lent_of t.tables.g.now t.tables.d.now t.priors.nodes.now t.priors.children.now (floor_of t.priors.layer) t.sequences.places.now t.sequences.rate
 
--- the node that a check's refusal names
-abbrev pub checked_node : Checked → Option Address
-checked_node Passed = none
-checked_node (Refused r) = named_node r
+abbrev pub input_in : Training → Input
+input_in t = record { lent = lent_in t; s = t.sequences.s; n = t.sequences.n }
 
 -- ---- the book
 
@@ -62,9 +57,9 @@ abbrev pub path_number : List ℕ → ℕ → ℕ → ℕ → ℕ
 path_number sequences first i book_size = add_refusal (recount_of sequences first i book_size) (path_in sequences (first + i))
 
 -- the path numbered i is added, or the recount's number says why not
-abbrev pub Added : List ℕ → ℕ → ℕ → List ℕ → Entries → Type 0
-Added sequences first i book (Used used) = (path_number sequences first i (length book) ≡ 0) × Holds sequences first (suc i) book used
-Added sequences first i book (Stopped r) = (path_number sequences first i (length book) ≡ number_of r) × (named_node r ≡ none)
+abbrev pub Added : List ℕ → ℕ → ℕ → List ℕ → ℕ → Result (Unit {0}) Reason → Type 0
+Added sequences first i book used (Ok x) = (path_number sequences first i (length book) ≡ 0) × Holds sequences first (suc i) book used
+Added sequences first i book used (Err r) = path_number sequences first i (length book) ≡ reason_number r
 
 -- ---- the values
 
@@ -78,8 +73,8 @@ abbrev pub sampled : ℕ → ℕ → Until KLDivergenceStats → List Float → 
 sampled rate i q values = cond (eqb (i % rate) 0) (at_knot (i / rate) q values) (reached values)
 
 -- the statistics that a book's entries give against accepted tables and priors, after so many paths
-unfoldable pub book_stats : List Float → List Float → List ℕ → List ℕ → ℕ → List Row → ℕ → Until KLDivergenceStats
-book_stats G D nodes children layer rs paths = recorded (stats_reading_of paths (walk G D nodes children layer (listed_nodes rs)))
+unfoldable pub book_stats : Lent → List Row → ℕ → Until KLDivergenceStats
+book_stats x rs paths = recorded (stats_reading_of paths (walk x.G x.D x.nodes x.children (layer_of x.floor) (listed_nodes rs)))
 
 -- what the path numbered i makes of the values
 unfoldable pub one_path : Lent → ℕ → ℕ → ℕ → List Float → Until (List Float)
@@ -97,11 +92,11 @@ all_entered (stopped n node) values = stopped n node
 all_entered (reached rss) values = reached (add_all rss values)
 
 -- a function's answer, and the values that it leaves
-abbrev pub ended : Checked → List Float → Until (List Float)
-ended Passed values = reached values
-ended (Refused r) values = stopped (number_of r) (named_node r)
+abbrev pub ended : Result (Unit {0}) Refusal → List Float → Until (List Float)
+ended (Ok x) values = reached values
+ended (Err r) values = stopped (number_of r) (named_node r)
 
 -- the path numbered i is added and its statistics are in the values, or the refusal is the first that there is
-abbrev pub Went : Lent → ℕ → ℕ → List ℕ → List Float → List Float → Entries → Type 0
-Went x first i book before after (Used used) = (one_path x first i (length book) before ≡ reached after) × Holds x.sequences first (suc i) book used
-Went x first i book before after (Stopped r) = one_path x first i (length book) before ≡ stopped (number_of r) (named_node r)
+abbrev pub Went : Lent → ℕ → ℕ → List ℕ → ℕ → List Float → List Float → Result (Unit {0}) Refusal → Type 0
+Went x first i book used before after (Ok u) = (one_path x first i (length book) before ≡ reached after) × Holds x.sequences first (suc i) book used
+Went x first i book used before after (Err r) = one_path x first i (length book) before ≡ stopped (number_of r) (named_node r)

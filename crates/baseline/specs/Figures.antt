@@ -2,9 +2,8 @@
 use Rattle.std.specs.Prelude.{ℕ, ◌-◌, Float}
 use Rattle.divergence.specs.Numbers.{fadd, fsub, fmul, fdiv, flt, zero64}
 use Rattle.baseline.specs.declared.sums.SumPair.{SumPair}
-use Rattle.baseline.specs.declared.sums.KnotSums.{KnotSums}
 use Rattle.baseline.specs.declared.figures.MeanVar.{MeanVar}
-use Rattle.baseline.specs.declared.figures.KLDivergenceBaselineStats.{KLDivergenceBaselineStats}
+use Rattle.baseline.specs.declared.five.Five.{Five}
 
 -- mean = sum / s
 abbrev pub mean_of : SumPair → Float → Float
@@ -17,7 +16,7 @@ variance_of p s = fsub (fdiv p.squares s) (fmul (mean_of p s) (mean_of p s))
 abbrev pub mean_var : SumPair → Float → MeanVar
 mean_var p s = record { mean = mean_of p s; variance = variance_of p s }
 
-unfoldable pub to_mean_var : KnotSums → Float → KLDivergenceBaselineStats
+unfoldable pub to_mean_var : Five SumPair → Float → Five MeanVar
 to_mean_var f s = record {
   max = mean_var f.max s;
   min = mean_var f.min s;
@@ -34,7 +33,7 @@ abbrev pub pair_on_line : MeanVar → MeanVar → Float → MeanVar
 pair_on_line a b w = record { mean = on_line a.mean b.mean w; variance = on_line a.variance b.variance w }
 
 -- means and variances alike, as goko does
-unfoldable pub interpolated : KLDivergenceBaselineStats → KLDivergenceBaselineStats → Float → KLDivergenceBaselineStats
+unfoldable pub interpolated : Five MeanVar → Five MeanVar → Float → Five MeanVar
 interpolated a b w = record {
   max = pair_on_line a.max b.max w;
   min = pair_on_line a.min b.min w;
@@ -51,5 +50,5 @@ abbrev pub zero_pair : MeanVar
 zero_pair = record { mean = zero64; variance = zero64 }
 
 -- all zeros: below the first knot, or with no knots
-abbrev pub no_figures : KLDivergenceBaselineStats
+abbrev pub no_figures : Five MeanVar
 no_figures = record { max = zero_pair; min = zero_pair; nz_count = zero_pair; moment1_nz = zero_pair; moment2_nz = zero_pair }

@@ -1,14 +1,14 @@
 -- `KLDivergenceBaseline::stats`: the figures at a length i, and numbers 17 and 18. Below the first knot, or with no knots, all figures are 0: a departure from the
 -- textbook, which has no value there; goko does the same. Assumes nothing.
-use Rattle.std.specs.Prelude.{ℕ, suc, ◌+◌, ◌-◌, ◌*◌, Bool, cond, not, ◌&&◌, List, [], ◌∷◌, eqb, leb, ltb, length, get_or, Float}
+use Rattle.std.specs.Prelude.{ℕ, suc, ◌+◌, ◌-◌, ◌*◌, Bool, cond, not, ◌&&◌, List, [], ◌∷◌, eqb, leb, ltb, length, get_or, Float, None, Result, Ok, Err}
 use Rattle.priors.specs.Below.{all_below}
 use Rattle.priors.specs.Rules.{rule, first_broken}
-use Rattle.priors.specs.Refusals.{number_of, named_node}
+use Rattle.priors.specs.Refusals.{reason_number}
 use Rattle.divergence.specs.Numbers.{flt}
 use Rattle.divergence.specs.Readings.{Reading, refused, answered, unless}
-use Rattle.baseline.specs.declared.figures.KLDivergenceBaselineStats.{KLDivergenceBaselineStats}
-use Rattle.baseline.specs.declared.baselines.BaselineStats.{BaselineStats}
-use Rattle.baseline.specs.declared.baselines.BaselineStats.TheVariants.{Figures, Refused}
+use Rattle.baseline.specs.declared.figures.MeanVar.{MeanVar}
+use Rattle.baseline.specs.declared.five.Five.{Five}
+use Rattle.priors.specs.declared.refusals.Reason.{Reason}
 use Rattle.baseline.specs.Limits.{max_sequences, max_knots, knot_values}
 use Rattle.baseline.specs.Sums.{sums_at}
 use Rattle.baseline.specs.Figures.{to_mean_var, interpolated, weight, no_figures}
@@ -25,23 +25,23 @@ not_above (k ∷ ks) i = cond (leb k i) (suc (not_above ks i)) (not_above ks i)
 -- ---- the figures
 
 -- at the knot numbered k, of s sequences
-unfoldable pub knot_figures : List Float → ℕ → ℕ → KLDivergenceBaselineStats
+unfoldable pub knot_figures : List Float → ℕ → ℕ → Five MeanVar
 knot_figures values s k = to_mean_var (sums_at values k) (flt s)
 
 -- on the straight line through the knots numbered k and k + 1
-unfoldable pub line_figures : List ℕ → List Float → ℕ → ℕ → ℕ → KLDivergenceBaselineStats
+unfoldable pub line_figures : List ℕ → List Float → ℕ → ℕ → ℕ → Five MeanVar
 line_figures knots values s i k =
     interpolated (knot_figures values s k) (knot_figures values s (k + 1)) (weight i (knot_at knots k) (knot_at knots (k + 1)))
 
 -- with n knots not above i: below the first or no knots, at a knot, between two, past the last
-unfoldable pub figures_after : List ℕ → List Float → ℕ → ℕ → ℕ → KLDivergenceBaselineStats
+unfoldable pub figures_after : List ℕ → List Float → ℕ → ℕ → ℕ → Five MeanVar
 figures_after knots values s i n =
     cond (eqb n 0) no_figures
     (cond (eqb (knot_at knots (n - 1)) i) (knot_figures values s (n - 1))
     (cond (ltb n (length knots)) (line_figures knots values s i (n - 1))
     (line_figures knots values s i (n - 2))))
 
-unfoldable pub figures_at : List ℕ → List Float → ℕ → ℕ → KLDivergenceBaselineStats
+unfoldable pub figures_at : List ℕ → List Float → ℕ → ℕ → Five MeanVar
 figures_at knots values s i = figures_after knots values s i (not_above knots i)
 
 -- ---- the rules
@@ -67,10 +67,10 @@ stats_refusal knots values s i = first_broken (rule 17 (baseline_fits knots valu
 
 -- ---- the answer
 
-unfoldable pub baseline_reading : List ℕ → List Float → ℕ → ℕ → Reading KLDivergenceBaselineStats
+unfoldable pub baseline_reading : List ℕ → List Float → ℕ → ℕ → Reading (Five MeanVar)
 baseline_reading knots values s i = unless (stats_refusal knots values s i) (answered (figures_at knots values s i))
 
 -- what an answer of the code stands for
-abbrev pub baseline_answer : BaselineStats → Reading KLDivergenceBaselineStats
-baseline_answer (Figures f) = answered f
-baseline_answer (Refused r) = refused (number_of r) (named_node r)
+abbrev pub baseline_answer : Result (Five MeanVar) Reason → Reading (Five MeanVar)
+baseline_answer (Ok f) = answered f
+baseline_answer (Err reason) = refused (reason_number reason) None

@@ -6,7 +6,7 @@ use Rattle.divergence.specs.Numbers.{fadd, fmul, flt}
 use Rattle.divergence.specs.declared.statistics.KLDivergenceStats.{KLDivergenceStats}
 use Rattle.baseline.specs.Limits.{knot_values}
 use Rattle.baseline.specs.declared.sums.SumPair.{SumPair}
-use Rattle.baseline.specs.declared.sums.KnotSums.{KnotSums}
+use Rattle.baseline.specs.declared.five.Five.{Five}
 
 -- one more value of a figure: it is added, and its square is added
 abbrev pub with_value : SumPair → Float → SumPair
@@ -17,7 +17,7 @@ abbrev pub with_number : SumPair → ℕ → SumPair
 with_number p n = record { sum = fadd p.sum (flt n); squares = fadd p.squares (flt (n * n)) }
 
 -- one more record; an empty one enters its f64::MIN and f64::MAX too
-unfoldable pub added : KnotSums → KLDivergenceStats → KnotSums
+unfoldable pub added : Five SumPair → KLDivergenceStats → Five SumPair
 added s r = record {
   max = with_value s.max r.max;
   min = with_value s.min r.min;
@@ -32,7 +32,7 @@ abbrev pub pair_at : List Float → ℕ → SumPair
 pair_at v at = record { sum = get_or v at nan; squares = get_or v (at + 1) nan }
 
 -- what the knot numbered k from 0 holds
-unfoldable pub sums_at : List Float → ℕ → KnotSums
+unfoldable pub sums_at : List Float → ℕ → Five SumPair
 sums_at v k = record {
   max = pair_at v (knot_values * k);
   min = pair_at v (knot_values * k + 2);
@@ -45,7 +45,7 @@ abbrev pub put_pair : List Float → ℕ → SumPair → List Float
 put_pair v at p = set (set v at p.sum) (at + 1) p.squares
 
 -- the values with the ten of the knot k replaced
-unfoldable pub put_sums : List Float → ℕ → KnotSums → List Float
+unfoldable pub put_sums : List Float → ℕ → Five SumPair → List Float
 put_sums v k s =
     put_pair
     (put_pair

@@ -1,8 +1,9 @@
 -- Training: for each sequence the recount opens with W 0 and the lent book's capacity and adds the paths; what `kl_div_stats` gives it at each sampled prefix is
 -- brought to the knots. The first 10, 12, 14 or 15 that the recount gets stops it. Assumes nothing.
 use Rattle.std.specs.Prelude.{ℕ, zero, suc, ◌+◌, ◌-◌, ◌*◌, ◌/◌, ◌%◌, min, Bool, cond, ◌&&◌, List, [], ◌∷◌, ◌++◌, eqb, leb, length, drop, replicate, Float, ℤ}
-use Rattle.std.proofs.Math.Option.{Option, none}
+use Rattle.std.specs.Prelude.{Option, None, Result, Ok, Err}
 use Rattle.priors.specs.declared.addresses.Address.{Address}
+use Rattle.priors.specs.declared.refusals.Refusal.{Refusal}
 use Rattle.priors.specs.Below.{list_of}
 use Rattle.priors.specs.Rules.{rule, first_broken}
 use Rattle.priors.specs.Refusals.{number_of, named_node}
@@ -22,8 +23,6 @@ use Rattle.divergence.specs.Claims.{recount_seen}
 use Rattle.divergence.specs.Checks.{or_else}
 use Rattle.baseline.specs.Limits.{max_sequences, max_paths, max_knots, knot_values}
 use Rattle.baseline.specs.Sums.{added, sums_at, put_sums}
-use Rattle.baseline.specs.declared.training.Trained.{Trained}
-use Rattle.baseline.specs.declared.training.Trained.TheVariants.{Knots, NotTrained}
 
 -- what each path of a training is held against: tables, priors, the sequences' bytes and the rate
 pub record Lent : Type 0 where
@@ -97,7 +96,7 @@ and_then (reached x) (reached xs) = reached (x ∷ xs)
 -- the statistics that a reading answers; `kl_div_stats` never gives none, and the second line is there because a reading has three cases
 abbrev pub recorded : Reading Statistics → Until KLDivergenceStats
 recorded (refused n node) = stopped n node
-recorded nothing = stopped 0 none
+recorded nothing = stopped 0 None
 recorded (answered a) = reached a.stats
 
 -- `kl_div_stats` of the recount
@@ -108,7 +107,7 @@ recount_stats x r =
 -- a path that is refused stops the training
 abbrev pub unless_stopped : {X : Type 0} → ℕ → Until X → Until X
 unless_stopped zero rest = rest
-unless_stopped (suc n) rest = stopped (suc n) none
+unless_stopped (suc n) rest = stopped (suc n) None
 
 -- the records of m paths of a sequence, the first of which has the number i and lies in the place numbered first + i; r is the recount of those before
 unfoldable pub records_from : Lent → ℕ → Recount → ℕ → ℕ → Until (List KLDivergenceStats)
@@ -161,7 +160,7 @@ knots_of x = knot_count x.n x.lent.rate
 abbrev pub trained_reading : ℕ → ℕ → Until (List (List KLDivergenceStats)) → Reading ℕ
 trained_reading zero count (stopped n node) = refused n node
 trained_reading zero count (reached rss) = answered count
-trained_reading (suc n) count u = refused (suc n) none
+trained_reading (suc n) count u = refused (suc n) None
 
 -- the book is all zero when training ends, stopped or not; refused before the work, it is as it was
 abbrev pub book_left : ℕ → List ℕ → List ℕ
@@ -196,10 +195,10 @@ train_asked x book knots values =
     }
 
 -- what an answer of the code stands for
-abbrev pub train_answer : Trained → Reading ℕ
-train_answer (Knots count) = answered count
-train_answer (NotTrained r) = refused (number_of r) (named_node r)
+abbrev pub train_answer : Result ℕ Refusal → Reading ℕ
+train_answer (Ok count) = answered count
+train_answer (Err r) = refused (number_of r) (named_node r)
 
 -- with what it leaves
-abbrev pub train_told : Trained → List ℕ → List ℕ → List Float → TrainAnswer
+abbrev pub train_told : Result ℕ Refusal → List ℕ → List ℕ → List Float → TrainAnswer
 train_told a book knots values = record { answer = train_answer a; book = book; knots = knots; values = values }

@@ -5,82 +5,65 @@ ghost use Rattle.entries.specs.Limits.{max_entries};
 ghost use Rattle.baseline.specs.Limits.{knot_values};
 ghost use Rattle.baseline.specs.Sums.{with_value, with_number, added as added_of, pair_at, sums_at, put_pair, put_sums};
 
+use crate::five::Five;
 use divergence::statistics::KLDivergenceStats;
 
 // Values of a knot.
 pub const KNOT_VALUES: usize = 10;
 
-#[derive(Clone, Copy)]
+#[derive(Clone, Copy, Debug, PartialEq)]
 pub struct SumPair {
     pub sum: f64,
     pub squares: f64,
 }
 
-#[derive(Clone, Copy)]
-pub struct KnotSums {
-    pub max: SumPair,
-    pub min: SumPair,
-    pub nz_count: SumPair,
-    pub moment1_nz: SumPair,
-    pub moment2_nz: SumPair,
-}
+pub type KnotSums = Five<SumPair>;
 
-fn with_value(p: SumPair, x: f64) -> SumPair
-    ensures { result ≡ with_value p x }
-{
-    SumPair {
-        sum: p.sum + x,
-        squares: p.squares + x * x,
+impl SumPair {
+    fn with_value(self, x: f64) -> Self
+        ensures { result ≡ with_value self x }
+    {
+        SumPair {
+            sum: self.sum + x,
+            squares: self.squares + x * x,
+        }
+    }
+
+    // The number's square is whole before it is made a float.
+    fn with_number(self, n: u64) -> Self
+        requires { n ≤ max_entries }
+        ensures { result ≡ with_number self n }
+    {
+        SumPair {
+            sum: self.sum + n as f64,
+            squares: self.squares + (n * n) as f64,
+        }
     }
 }
 
-// The number's square is whole before it is made a float.
-fn with_number(p: SumPair, n: u64) -> SumPair
-    requires { n ≤ max_entries }
-    ensures { result ≡ with_number p n }
-{
-    let square = n * n;
-    SumPair {
-        sum: p.sum + n as f64,
-        squares: p.squares + square as f64,
+impl KnotSums {
+    // One more record. A book has at most 16,384 entries, so no more divergences are counted.
+    #[tactic(auto, unfolding(crate::specs::Sums::added))]
+    fn added(self, stats: &KLDivergenceStats) -> Self
+        requires { stats.now.nz_count ≤ max_entries }
+        ensures { result ≡ added_of self stats.now }
+    {
+        Five {
+            max: self.max.with_value(stats.max),
+            min: self.min.with_value(stats.min),
+            nz_count: self.nz_count.with_number(stats.nz_count),
+            moment1_nz: self.moment1_nz.with_value(stats.moment1_nz),
+            moment2_nz: self.moment2_nz.with_value(stats.moment2_nz),
+        }
     }
-}
 
-// One more record. A book has at most 16,384 entries, so no more divergences are counted.
-pub(crate) fn added(sums: KnotSums, stats: KLDivergenceStats) -> KnotSums
-    requires { stats.nz_count ≤ max_entries }
-    ensures { result ≡ added_of sums stats }
-{
-    let max = with_value(sums.max, stats.max);
-    let min = with_value(sums.min, stats.min);
-    let nz_count = with_number(sums.nz_count, stats.nz_count);
-    let moment1_nz = with_value(sums.moment1_nz, stats.moment1_nz);
-    let moment2_nz = with_value(sums.moment2_nz, stats.moment2_nz);
-    KnotSums {
-        max,
-        min,
-        nz_count,
-        moment1_nz,
-        moment2_nz,
+    // The same in place.
+    fn add(&mut self, stats: &KLDivergenceStats)
+        requires { stats.now.nz_count ≤ max_entries }
+        ensures { self.new ≡ added_of self.old stats.now }
+    {
+        *self = self.added(stats);
     }
-}
-
-// The same in place.
-pub(crate) fn add(sums: &mut KnotSums, stats: KLDivergenceStats)
-    requires { stats.nz_count ≤ max_entries }
-    ensures { sums.new ≡ added_of sums.old stats }
-{
-    *sums = added(*sums, stats);
-}
-
-// `added` by way of `add`: a local is lent and comes back.
-pub(crate) fn with_added(sums: KnotSums, stats: KLDivergenceStats) -> KnotSums
-    requires { stats.nz_count ≤ max_entries }
-    ensures { result ≡ added_of sums stats }
-{
-    let mut changed = sums;
-    add(&mut changed, stats);
-    changed
 }
 
 fn pair_at(values: &[f64], at: usize) -> SumPair
@@ -102,26 +85,23 @@ fn put_pair(values: &mut [f64], at: usize, p: SumPair)
 }
 
 // What the knot numbered k from 0 holds.
+#[tactic(auto, unfolding(crate::specs::Sums::sums_at))]
 pub(crate) fn sums_at(values: &[f64], k: usize) -> KnotSums
     requires { knot_values * k + 9 < length values.now }
     ensures { result ≡ sums_at values.now k }
 {
     let at = KNOT_VALUES * k;
-    let max = pair_at(values, at);
-    let min = pair_at(values, at + 2);
-    let nz_count = pair_at(values, at + 4);
-    let moment1_nz = pair_at(values, at + 6);
-    let moment2_nz = pair_at(values, at + 8);
-    KnotSums {
-        max,
-        min,
-        nz_count,
-        moment1_nz,
-        moment2_nz,
+    Five {
+        max: pair_at(values, at),
+        min: pair_at(values, at + 2),
+        nz_count: pair_at(values, at + 4),
+        moment1_nz: pair_at(values, at + 6),
+        moment2_nz: pair_at(values, at + 8),
     }
 }
 
-pub(crate) fn put_sums(values: &mut [f64], k: usize, sums: KnotSums)
+#[tactic(auto, unfolding(crate::specs::Sums::put_sums))]
+fn put_sums(values: &mut [f64], k: usize, sums: KnotSums)
     requires { knot_values * k + 9 < length values.old }
     ensures { values.new ≡ put_sums values.old k sums }
 {
@@ -134,11 +114,12 @@ pub(crate) fn put_sums(values: &mut [f64], k: usize, sums: KnotSums)
 }
 
 // One more record at the knot numbered k.
-pub(crate) fn add_at(values: &mut [f64], k: usize, stats: KLDivergenceStats)
+pub(crate) fn add_at(values: &mut [f64], k: usize, stats: &KLDivergenceStats)
     requires k_in_bounds { knot_values * k + 9 < length values.old }
-    requires nz_count_bound { stats.nz_count ≤ max_entries }
-    ensures { values.new ≡ put_sums values.old k (added_of (sums_at values.old k) stats) }
+    requires nz_count_bound { stats.now.nz_count ≤ max_entries }
+    ensures { values.new ≡ put_sums values.old k (added_of (sums_at values.old k) stats.now) }
 {
-    let sums = sums_at(values, k);
-    put_sums(values, k, with_added(sums, stats));
+    let mut sums = sums_at(values, k);
+    sums.add(stats);
+    put_sums(values, k, sums);
 }

@@ -2,7 +2,7 @@
 use mathlib.Core.Path.{◌≡◌, refl, sym, ap, ◌∙◌}
 use mathlib.Core.Logic.{⊎_elim}
 use mathlib.Core.Bool.{Bool, true, false, cond}
-use Prim.Native.Nat.{ℕ, zero, suc, ◌+◌, ◌*◌, ◌≤◌, ◌<◌}
+use Prim.Native.Nat.{ℕ, zero, suc, ◌+◌, ◌*◌, ◌/◌, ◌%◌, ◌≤◌, ◌<◌, min}
 use native.Mathlib.Nat.{eq-or-lt_of_le}
 use native.Mathlib.Numerals.{add-one}
 use native.Mathlib.Omega.{arith}
@@ -166,8 +166,8 @@ module _
         go : (b : Batched T) → P b.left → unless_refused b.number (tried refusal after (seen_as f b) (lent_path places k)) (seen_as f b) ≡ seen_as f (unless_refused b.number (tried refusal' after' b (lent_path places k)) b)
         go b h = one b h b.number
 
-pub batch_end : (places : List ℕ) (k : ℕ) → 516 * k ≤ length places + 515 → length places ≤ 516 * k → k ≡ places_in places
-batch_end places k l h = omega arith
+pub batch_end : (places : List ℕ) (k : ℕ) → k ≡ length places / 516 + min 1 (length places % 516) → k ≡ places_in places
+batch_end places k e = omega arith
 
 -- ---- a tracker's
 

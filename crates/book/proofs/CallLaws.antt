@@ -1,67 +1,45 @@
--- The answers of an opening, of an add and of a tidy by their number: what a refused call leaves and what one that is taken does; and what the form hands to an add.
--- Assumes nothing.
+-- The answer of an add by its number: what a refused call leaves and what one that is taken does; and what the form hands to an add. Assumes nothing.
 use mathlib.Core.Path.{◌≡◌, refl, sym, ap, ap₂, ◌∙◌}
 use mathlib.Core.Logic.{◌⊎◌, inl, inr}
 use Prim.Native.Nat.{ℕ, suc, ◌+◌, ◌*◌, ◌/◌, ◌%◌, ◌≤◌, ◌<◌}
 use native.Mathlib.Nat.{mod-lt}
 use native.Mathlib.Omega.{arith}
 use mathlib.Core.List.{List, ◌++◌}
-use mathlib.Core.Option.{none, some}
+use Rattle.std.specs.Prelude.{None, Some}
 use mathlib.Core.Bool.{Bool, true, false, cond, ◌&&◌}
 use lib.Dec.{leb, eqb}
 use lib.ListN.{length, take, drop, length-take, length-drop}
 use borrow.Author.Tests.{leb-true, le-leb, lt-leb}
 use Rattle.priors.specs.Word.{word, store}
+use Rattle.std.specs.Prelude.{if◌then◌else◌}
+use Rattle.priors.specs.declared.refusals.Reason.{Reason}
+use Rattle.priors.specs.Refusals.{reason_number}
+use Rattle.priors.proofs.RuleLaws.{reason_some}
 use Rattle.priors.specs.Rows.{Row, keys, Ascends}
 use Rattle.priors.proofs.BelowLaws.{first_true, second_true}
 use Rattle.priors.proofs.Ranks.{Bytes}
 use Rattle.book.specs.declared.trackers.Tracker.{Tracker}
 use Rattle.entries.specs.Limits.{max_window, max_accepted, max_count}
 use Rattle.entries.specs.Entries.{rows, bytes_of, Rewritten, CountsUpTo}
-use Rattle.book.specs.Path.{listed_keys, counted_keys, path_of}
+use Rattle.book.specs.Path.{listed_keys, counted_keys, path_of, whole_path}
+use Rattle.book.specs.Figures.{Ranks}
 use Rattle.book.specs.Form.{capacity, book_fits, queue_fits, state_fits, formed, lengths_fit, filled, in_form}
 use Rattle.book.specs.Changes.{change_all, touch_all, bump_all, fade_all, left_keys, add_rows, EndingsListed}
-use Rattle.book.specs.Calls.{BookAnswer, zeros, book_of, fresh, open_number, open_state, open_book, open_queue, open_answer, add_number, add_state, add_book, add_queue, add_answer, book_after, queue_with, listed_rows, leaving, next_place, steps_at, place_bytes, rows_after}
+use Rattle.book.specs.Calls.{add_number, add_state, add_book, add_queue, add_answer, book_after, queue_with, listed_rows, leaving, next_place, steps_at, place_bytes, rows_after}
 use Rattle.book.specs.Adding.{Leaves, Ready}
-use Rattle.book.specs.Tidy.{rows_tidied, state_tidied, tidy_number, tidy_state, tidy_book, tidy_answer}
 use Rattle.entries.proofs.EntryLaws.{length_rows, length_bytes_of, rows_forth}
 use Rattle.book.proofs.ManyRows.{ascends_all}
 use Rattle.book.proofs.Lengths.{length_half}
 use Rattle.book.proofs.FormLaws.{formed_ascends, formed_counts, lengths_at}
 use Rattle.book.proofs.EndingLaws.{formed_endings}
-use Rattle.book.proofs.StepLaws.{part_steps, path_even, path_high}
-
--- ---- an opening
-
-module _ (window : ℕ) (book queue : List ℕ) where
-  pub open_refused : (n : ℕ) → open_number window book queue ≡ suc n
-      → record { number = suc n; state = none; taken = none; book = book; queue = queue } ≡ open_answer window book queue
-  unfolding open_state open_book open_queue
-  open_refused n e = rw e
-
-  pub open_taken : open_number window book queue ≡ 0
-      → record { number = 0; state = some (fresh window); taken = none; book = zeros (length book); queue = zeros (length queue) } ≡ open_answer window book queue
-  unfolding open_state open_book open_queue
-  open_taken e = rw e
-
-  pub window_over : 1024 < window → open_number window book queue ≡ 8
-  unfolding open_number
-  window_over h = rw (lt-leb window 1024 h)
-
-  module _ (h : window ≤ 1024) where
-    pub lent_wrong : book_fits book && queue_fits window queue ≡ false → open_number window book queue ≡ 9
-    unfolding open_number
-    lent_wrong e = rw (le-leb window 1024 h, e)
-
-    pub lent_right : book_fits book && queue_fits window queue ≡ true → open_number window book queue ≡ 0
-    unfolding open_number
-    lent_right e = rw (le-leb window 1024 h, e)
+use Rattle.book.proofs.PathLaws.{bytes_drop, steps_ranks}
+use Rattle.book.proofs.StepLaws.{part_steps}
 
 -- ---- an add
 
 module _ (t : Tracker) (book queue path : List ℕ) where
   pub add_refused : (n : ℕ) → add_number t book queue path ≡ suc n
-      → record { number = suc n; state = some t; taken = none; book = book; queue = queue } ≡ add_answer t book queue path
+      → record { number = suc n; state = Some t; taken = None; book = book; queue = queue } ≡ add_answer t book queue path
   unfolding add_state add_book add_queue
   add_refused n e = rw e
 
@@ -69,17 +47,15 @@ module _ (t : Tracker) (book queue path : List ℕ) where
   unfolding add_number
   out_of_form e = rw e
 
--- ---- a tidy
+-- ---- what a check's number tells
 
-module _ (t : Tracker) (book queue : List ℕ) where
-  pub tidy_refused : in_form t book queue ≡ false → ◌≡◌ {A = BookAnswer} (record { number = 9; state = some t; taken = none; book = book; queue = queue }) (tidy_answer t book queue)
-  unfolding tidy_number tidy_state tidy_book
-  tidy_refused e = rw e
+pub passes : (b : Bool) (n : ℕ) → 0 ≡ (if b then 0 else suc n) → b ≡ true
+passes true n e = refl
+passes false n e = absurd (omega arith)
 
-  pub tidy_done : in_form t book queue ≡ true → (n : ℕ) → n ≡ length (rows_tidied t book) → (after : List ℕ) → after ≡ book_of (rows_tidied t book) (length book)
-      → ◌≡◌ {A = BookAnswer} (record { number = 0; state = some (record { window = t.window; used = n; accepted = t.accepted }); taken = none; book = after; queue = queue }) (tidy_answer t book queue)
-  unfolding tidy_number tidy_state state_tidied tidy_book
-  tidy_done e n is after leaves = rw (e, is, leaves)
+pub fails : (b : Bool) (n : ℕ) (r : Reason) → reason_number r ≡ (if b then 0 else n) → (b ≡ false) × (reason_number r ≡ n)
+fails true n r e = let some = reason_some r in absurd (omega (arith, some.1))
+fails false n r e = (refl, e)
 
 -- ---- what the form tells
 
@@ -127,6 +103,12 @@ module _ (t : Tracker) (book queue : List ℕ) (form : in_form t book queue ≡ 
   unfolding rest_state rest_queue
   form_used = used_fits t book (first_true (state_fits t book) rest_queue after_book)
 
+  pub form_few : t.used ≤ 16384
+  unfolding book_fits
+  form_few =
+      let most : capacity book ≤ 16384 = leb-true (capacity book) 16384 (second_true (leb 1 (capacity book)) (leb (capacity book) 16384) (second_true (eqb (length book % 24) 0) (leb 1 (capacity book) && leb (capacity book) 16384) form_book)) in
+      omega (arith, form_used)
+
   pub form_formed : formed (rows book t.used) ≡ true
   unfolding rest_formed
   form_formed = first_true (formed (rows book t.used)) (lengths_fit queue (filled t)) after_queue
@@ -160,10 +142,10 @@ module _ (t : Tracker) (book queue : List ℕ) (form : in_form t book queue ≡ 
 -- ---- the path that leaves
 
 module _ (t : Tracker) (queue : List ℕ) where
-  pub none_leaves : (t.window ≡ 0) ⊎ (t.accepted < t.window) → leaving t queue ≡ none
+  pub none_leaves : (t.window ≡ 0) ⊎ (t.accepted < t.window) → leaving t queue ≡ None
   unfolding leaving
   none_leaves (inl e) = rw (lt-leb 1 t.window (omega arith))
-  none_leaves (inr l) = ap (λ (b : Bool). cond b (some (steps_at queue (next_place t))) none) (and_false (leb 1 t.window) (lt-leb t.window t.accepted l))
+  none_leaves (inr l) = ap (λ (b : Bool). cond b (Some (steps_at queue (next_place t))) None) (and_false (leb 1 t.window) (lt-leb t.window t.accepted l))
     where
       and_false : (a : Bool) {b : Bool} → b ≡ false → a && b ≡ false
       and_false true e = e
@@ -177,21 +159,32 @@ module _ (t : Tracker) (queue : List ℕ) where
     place_in fits = omega (arith, place_lt)
 
     module _ (leaves : Leaves t queue) (full : t.window ≤ t.accepted) where
-      pub leaves_is : leaving t queue ≡ some (steps_at queue (next_place t))
+      pub leaves_is : leaving t queue ≡ Some (steps_at queue (next_place t))
       unfolding leaving
       leaves_is = rw (le-leb 1 t.window (omega arith), le-leb t.window t.accepted full)
 
       pub leaves_steps : (1 ≤ word queue (next_place t)) × (word queue (next_place t) ≤ 64)
       leaves_steps = lengths_at queue (filled t) (t.accepted % t.window) leaves.lengths_hold (omega (arith, place_lt))
 
-      pub leaves_length : 8 ≤ length (take (8 * word queue (next_place t)) (drop (next_place t + 4) queue))
+      leaves_length : length (take (8 * word queue (next_place t)) (drop (next_place t + 4) queue)) ≡ 8 * word queue (next_place t)
       leaves_length = simp (length-take, length-drop) (omega (arith, place_in leaves.places_fit, leaves_steps))
+
+      pub leaves_whole : whole_path (take (8 * word queue (next_place t)) (drop (next_place t + 4) queue)) ≡ true
+      unfolding whole_path
+      leaves_whole =
+          let n : ℕ = word queue (next_place t) in
+          let rest : 8 * n % 8 ≡ 0 = omega arith in
+          let steps : 8 * n / 8 ≡ n = omega arith in
+          rw (leaves_length, rest, steps, le-leb 1 n leaves_steps.0, le-leb n 64 leaves_steps.1)
 
       pub leaves_part : path_of (take (8 * word queue (next_place t)) (drop (next_place t + 4) queue)) ≡ steps_at queue (next_place t)
       leaves_part = part_steps queue (next_place t) (omega (arith, place_in leaves.places_fit, leaves_steps))
 
+      pub leaves_ranks : Bytes queue → Ranks (path_of (take (8 * word queue (next_place t)) (drop (next_place t + 4) queue)))
+      leaves_ranks bytes = rw leaves_part (steps_ranks (drop (next_place t + 4) queue) (bytes_drop (next_place t + 4) queue bytes) (word queue (next_place t)))
+
 -- where none leaves nothing is taken away
-pub nothing_left : (t : Tracker) (queue s : List ℕ) (n : ℕ) → leaving t queue ≡ none → Rewritten s s n (fade_all (left_keys (leaving t queue)) (rows s n))
+pub nothing_left : (t : Tracker) (queue s : List ℕ) (n : ℕ) → leaving t queue ≡ None → Rewritten s s n (fade_all (left_keys (leaving t queue)) (rows s n))
 unfolding change_all
 nothing_left t queue s n e = rw e (record { number_is = sym (length_rows s n); rows_are = refl; rest_is = refl })
 
@@ -209,28 +202,16 @@ module _ (t : Tracker) (queue path : List ℕ) where
 -- ---- what an add leaves
 
 module _ (t : Tracker) (book queue path : List ℕ) (r : Ready t book queue path) where
-  pub listed_fit : 24 * length (touch_all (listed_keys (path_of path)) (rows book t.used)) ≤ length book
-  listed_fit = omega (arith, r.room)
-
-  pub path_short : length path ≤ 512
-  path_short = omega (arith, path_even path r.path_whole, path_high path r.path_whole)
-
   module _ (s₁ : List ℕ) (n : ℕ) (len₁ : length s₁ ≡ length book)
       (first : Rewritten book s₁ n (bump_all (counted_keys (path_of path)) (touch_all (listed_keys (path_of path)) (rows book t.used)))) where
     pub number_is : n ≡ length (listed_rows t book path)
     number_is = first.number_is ∙ length_half (path_of path) (rows book t.used)
 
-    pub number_small : n ≤ 16384
-    unfolding book_fits
-    number_small =
-        let most : capacity book ≤ 16384 = leb-true (capacity book) 16384 (second_true (leb 1 (capacity book)) (leb (capacity book) 16384) (second_true (eqb (length book % 24) 0) (leb 1 (capacity book) && leb (capacity book) 16384) r.book_sized)) in
-        omega (arith, number_is, r.room)
-
     pub half_fits : 24 * n ≤ length s₁
     half_fits = omega (arith, number_is, r.room)
 
     pub half_ascends : Ascends 0 (keys (rows s₁ n))
-    half_ascends = rw first.rows_are (ascends_all (some 1) (λ c. c + 1) (counted_keys (path_of path)) _ (ascends_all (some 0) (λ c. c) (listed_keys (path_of path)) (rows book t.used) r.ascends))
+    half_ascends = rw first.rows_are (ascends_all (Some 1) (λ c. c + 1) (counted_keys (path_of path)) _ (ascends_all (Some 0) (λ c. c) (listed_keys (path_of path)) (rows book t.used) r.ascends))
 
     module _ (s₂ : List ℕ) (second : Rewritten s₁ s₂ n (fade_all (left_keys (leaving t queue)) (rows s₁ n))) where
       whole : fade_all (left_keys (leaving t queue)) (rows s₁ n) ≡ rows_after t book queue path

@@ -5,7 +5,7 @@ use mathlib.Core.Path.{◌≡◌, refl, sym, ap, ap₂, ◌∙◌}
 use Prim.Native.Nat.{ℕ, zero, suc, ◌+◌, ◌-◌, ◌*◌, ◌≤◌, ◌<◌}
 use native.Mathlib.Omega.{arith}
 use mathlib.Core.List.{List, [], ◌∷◌, ◌++◌, flat_map}
-use mathlib.Core.Option.{Option, none, some}
+use Rattle.std.specs.Prelude.{Option, None, Some}
 use lib.ListN.{length, drop, length-append, replicate-append-replicate}
 use Rattle.priors.specs.Rows.{Row}
 use Rattle.entries.specs.Entries.{rows, bytes_of}
@@ -70,7 +70,7 @@ module _ (m : Machine) (r : Recount) (w : ℕ) (book queue : List ℕ) where
   unfolding book_step open_state open_book open_queue
   opened = go (open_number w book queue)
     where
-      go : (n : ℕ) → reopened (unless_refused n (some (fresh w)) none) (unless_refused n (zeros (length book)) book) (unless_refused n (zeros (length queue)) queue) m
+      go : (n : ℕ) → reopened (unless_refused n (Some (fresh w)) None) (unless_refused n (zeros (length book)) book) (unless_refused n (zeros (length queue)) queue) m
           ≡ unless_refused n (record { state = fresh w; book = zeros (length book); queue = zeros (length queue) }) m
       go zero = refl
       go (suc n) = refl
@@ -81,7 +81,7 @@ module _ (m : Machine) (r : Recount) (w : ℕ) (book queue : List ℕ) where
 
   pub open_answer_lem : (book_step m (opening w book queue)).0 ≡ (recount_step r (opening w book queue)).0
   unfolding book_step open_state open_book open_queue recount_step
-  open_answer_lem = λ i. record { number = number i; state = state i; taken = none; book = book_is i; queue = queue_is i }
+  open_answer_lem = λ i. record { number = number i; state = state i; taken = None; book = book_is i; queue = queue_is i }
     where
       number : open_number w book queue ≡ open_refusal w (length book) (length queue)
       number = open_number_lem w book queue
@@ -89,8 +89,8 @@ module _ (m : Machine) (r : Recount) (w : ℕ) (book queue : List ℕ) where
       fresh_is : Recount
       fresh_is = restarted w (length book) (length queue)
 
-      state : unless_refused (open_number w book queue) (some (fresh w)) none ≡ unless_refused (open_refusal w (length book) (length queue)) (some (image fresh_is).state) none
-      state = unless_same _ _ (some (fresh w)) none (some (image fresh_is).state) none number (λ e. ap (λ (n : Machine). some n.state) (zeroed e)) refl
+      state : unless_refused (open_number w book queue) (Some (fresh w)) None ≡ unless_refused (open_refusal w (length book) (length queue)) (Some (image fresh_is).state) None
+      state = unless_same _ _ (Some (fresh w)) None (Some (image fresh_is).state) None number (λ e. ap (λ (n : Machine). Some n.state) (zeroed e)) refl
 
       book_is : unless_refused (open_number w book queue) (zeros (length book)) book ≡ unless_refused (open_refusal w (length book) (length queue)) (image fresh_is).book book
       book_is = unless_same _ _ (zeros (length book)) book (image fresh_is).book book number (λ e. ap (λ (n : Machine). n.book) (zeroed e)) refl
@@ -163,7 +163,7 @@ module _ (r : Recount) (k : Kept r) (path : List ℕ) (bytes : All (λ b. b < 25
 
   add_answer_lem : (book_step (image r) (add path)).0 ≡ (recount_step r (add path)).0
   unfolding book_step recount_step image
-  add_answer_lem = λ i. record { number = add_number_lem r k path i; state = some (add_state_lem i); taken = none; book = add_book_lem i; queue = add_queue_lem i }
+  add_answer_lem = λ i. record { number = add_number_lem r k path i; state = Some (add_state_lem i); taken = None; book = add_book_lem i; queue = add_queue_lem i }
 
   add_leaves : (book_step (image r) (add path)).1 ≡ image (recount_step r (add path)).1
   unfolding book_step image
@@ -225,7 +225,7 @@ module _ (r : Recount) (k : Kept r) where
 
   tidy_answer_lem : (book_step (image r) tidy).0 ≡ (recount_step r tidy).0
   unfolding book_step recount_step image
-  tidy_answer_lem = λ i. record { number = tidy_number_lem r k i; state = some (tidy_state_lem i); taken = none; book = tidy_book_lem i; queue = (image r).queue }
+  tidy_answer_lem = λ i. record { number = tidy_number_lem r k i; state = Some (tidy_state_lem i); taken = None; book = tidy_book_lem i; queue = (image r).queue }
 
   pub tidy_leaves : (book_step (image r) tidy).1 ≡ image (recount_step r tidy).1
   unfolding book_step recount_step image

@@ -4,7 +4,7 @@ use Prim.Native.Nat.{ℕ, zero, suc, ◌+◌, ◌*◌, ◌/◌, ◌%◌, ◌≤�
 use native.Mathlib.Numerals.{add-one}
 use native.Mathlib.Omega.{arith}
 use mathlib.Core.List.{List, [], ◌∷◌, ◌++◌, append-nil, append_assoc}
-use mathlib.Core.Option.{Option, none, some}
+use Rattle.std.specs.Prelude.{Option, None, Some}
 use mathlib.Core.Bool.{Bool, true, false, cond, ◌&&◌}
 use lib.Dec.{leb, ltb, eqb}
 use lib.ListN.{length, drop}
@@ -107,8 +107,8 @@ all_list_without_tidies h e (c ∷ cs) n (a ∷ answers) = all_list_without_tidi
     unless (suc k) x q = e
 
     more : (t : Option ℕ) (places : List ℕ) → (heard_taken h places t).lists ≡ (heard_taken h places t).paths
-    more none places = e
-    more (some k) places = ap (λ (P : List Steps). P ++ lent_paths places k) e
+    more None places = e
+    more (Some k) places = ap (λ (P : List Steps). P ++ lent_paths places k) e
 
     one : (c : BookCall) → NoTidy c → (heard_with h c a).lists ≡ (heard_with h c a).paths
     one (opening w book queue) t = unless a.number (record { window = w; paths = []; lists = [] }) refl
@@ -152,7 +152,7 @@ none_before r e z =
     let same : before_window r.window r.paths ≡ r.base = omega (arith, e, ap (λ (W : ℕ). before_window W r.paths) z, before_all r.paths) in
     λ i. record { window = r.window; paths = r.paths; base = same i; book_size = r.book_size; queue_size = r.queue_size }
 
-found_is : (n c d : ℕ) → found n c ≡ some d → d ≡ c
+found_is : (n c d : ℕ) → found n c ≡ Some d → d ≡ c
 found_is zero c d h = let z : ◌≡◌ {A = ℕ} 0 1 = cc in absurd (omega arith)
 found_is (suc n) c d h = cc
 

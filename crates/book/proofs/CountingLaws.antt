@@ -1,19 +1,20 @@
 -- A path whose counted keys all stand in the book: its keys by their numbers, how counting one more at their places is kept, and that it lists nothing new.
 -- Assumes nothing.
 use mathlib.Core.Path.{◌≡◌, refl, sym, ap, ◌∙◌}
-use Prim.Native.Nat.{ℕ, zero, suc, ◌+◌, ◌*◌, ◌/◌, ◌^◌, ◌≤◌, ◌<◌}
-use native.Mathlib.Numerals.{add-one}
+use Prim.Native.Nat.{ℕ, zero, suc, ◌+◌, ◌*◌, ◌^◌, ◌≤◌, ◌<◌}
 use native.Mathlib.Nat.{not-suc-le-zero, eq-or-lt_of_le}
 use native.Mathlib.Omega.{arith}
 use mathlib.Core.List.{List, [], ◌∷◌}
 use mathlib.Core.Logic.{⊎_elim}
 use mathlib.Core.Bool.{true}
-use mathlib.Core.Option.{Option, some}
+use Rattle.std.specs.Prelude.{Option, Some}
+use lib.Dec.{ltb, eqb}
+use borrow.Author.Tests.{ltb-true}
+use Rattle.priors.proofs.BelowLaws.{first_true}
 use lib.ListN.{length, get_or, set, drop, length-map, get_or-map, drop_of_length-le}
-use lib.Seq.{drop-cons, map-set_same, get_or-set_same, get_or-set_other}
+use lib.Seq.{map-set_same, get_or-set_same, get_or-set_other}
 use Rattle.priors.specs.Rows.{Row, row, keys, Ascends, change, bump, touch}
 use Rattle.priors.specs.Search.{blank, holds}
-use Rattle.priors.proofs.Ranks.{Bytes}
 use Rattle.priors.proofs.RowLaws.{touch_found}
 use Rattle.priors.proofs.ByPlace.{Spot, look_spot, change_spot}
 use Rattle.entries.specs.Keys.{end_key, child_key}
@@ -22,11 +23,11 @@ use Rattle.entries.specs.Entries.{rows, with_count, entry_count_at, Rewritten, C
 use Rattle.book.specs.Figures.{Listed, Ranks}
 use Rattle.book.specs.Changes.{EndingsListed, change_all, touch_all, bump_all}
 use Rattle.book.specs.Adding.{Stand}
-use Rattle.book.proofs.PathLaws.{steps_ranks}
 use Rattle.entries.proofs.EntryLaws.{length_rows}
 use Rattle.entries.proofs.HalvingLaws.{stands_found}
 use Rattle.entries.proofs.BookLaws.{spot_at, at_lt, count_at, changed_at, counts_change}
 use Rattle.book.proofs.EndingLaws.{ending_touched}
+use Rattle.book.proofs.Loops.{change_next}
 
 -- ---- the keys that a path counts
 
@@ -69,6 +70,10 @@ stands_spot rs k i a h = spot_at k i rs (stands_found rs k i a h)
 pub stands_listed : (rs : List Row) (k i : ℕ) → Ascends 0 (keys rs) → holds rs i k ≡ true → Listed k rs
 stands_listed rs k i a h = ((get_or rs i blank).count, look_spot k (stands_spot rs k i a h))
 
+pub place_small : (s : List ℕ) (n k i : ℕ) → holds (rows s n) i k ≡ true → i < n
+unfolding holds
+place_small s n k i h = omega (arith, ltb-true i (length (rows s n)) (first_true (ltb i (length (rows s n))) (eqb (get_or (rows s n) i blank).key k) h), length_rows s n)
+
 -- one more place is told
 pub stand_on : (rs : List Row) (ks ps : List ℕ) (i p : ℕ) → i < length ps → ((j : ℕ) → j < i → holds rs (get_or ps j 0) (get_or ks j 0) ≡ true) → holds rs p (get_or ks i 0) ≡ true
     → (j : ℕ) → j < i + 1 → holds rs (get_or (set ps i p) j 0) (get_or ks j 0) ≡ true
@@ -93,10 +98,6 @@ pub record Counting (s₀ : List ℕ) (n : ℕ) (ks : List ℕ) (s : List ℕ) (
 pub counting_start : (s : List ℕ) (n : ℕ) (ks : List ℕ) → CountsUpTo (2 ^ 31) (rows s n) → Counting s n ks s 0
 counting_start s n ks c = record { same_length = refl; rest_is = refl; same_keys = refl; counts_fit = c; left = refl }
 
-bump_next : (ks : List ℕ) (i : ℕ) (rs : List Row) → i < length ks → bump_all (drop (i + 1) ks) (bump (get_or ks i 0) rs) ≡ bump_all (drop i ks) rs
-unfolding change_all
-bump_next ks i rs l = rw (add-one i, drop-cons ks i 0 l)
-
 module _ (s₀ : List ℕ) (n : ℕ) (ks ps : List ℕ) (fits : 24 * n ≤ length s₀) (asc : Ascends 0 (keys (rows s₀ n))) (stand : Stand (rows s₀ n) ks ps)
     (s : List ℕ) (i : ℕ) (so_far : Counting s₀ n ks s i) (more : i < length ks) where
   there : Spot (get_or ks i 0) (rows s n) (get_or ps i 0) true
@@ -105,8 +106,8 @@ module _ (s₀ : List ℕ) (n : ℕ) (ks ps : List ℕ) (fits : 24 * n ≤ lengt
   still_fits : 24 * n ≤ length s
   still_fits = omega (arith, so_far.same_length)
 
-  pub place_fits : 24 * get_or ps i 0 + 24 ≤ length s
-  place_fits = omega (arith, at_lt s n (get_or ks i 0) (get_or ps i 0) still_fits there, still_fits)
+  pub place_used : get_or ps i 0 < n
+  place_used = at_lt s n (get_or ks i 0) (get_or ps i 0) still_fits there
 
   pub count_fits : entry_count_at s (get_or ps i 0) ≤ 2 ^ 31 + i
   count_fits = count_at s n (get_or ks i 0) (get_or ps i 0) still_fits there (2 ^ 31 + i) so_far.counts_fit
@@ -114,14 +115,14 @@ module _ (s₀ : List ℕ) (n : ℕ) (ks ps : List ℕ) (fits : 24 * n ≤ lengt
   pub counting_on : i ≤ 64 → (s' : List ℕ) → length s' ≡ length s → s' ≡ with_count s (get_or ps i 0) (entry_count_at s (get_or ps i 0) + 1) → Counting s₀ n ks s' (i + 1)
   counting_on few s' len e =
       let k : ℕ = get_or ks i 0 in
-      let r : Rewritten s s' n (bump k (rows s n)) = rw e (changed_at s n k (get_or ps i 0) still_fits there (some 1) (λ c. c + 1) (entry_count_at s (get_or ps i 0) + 1) refl (omega (arith, count_fits))) in
+      let r : Rewritten s s' n (bump k (rows s n)) = rw e (changed_at s n k (get_or ps i 0) still_fits there (Some 1) (λ c. c + 1) (entry_count_at s (get_or ps i 0) + 1) refl (omega (arith, count_fits))) in
       let m : ℕ = 2 ^ 31 + i in
       record {
         same_length = len ∙ so_far.same_length;
         rest_is = r.rest_is ∙ so_far.rest_is;
-        same_keys = ap keys r.rows_are ∙ keys_stay (some 1) (λ c. c + 1) k (get_or ps i 0) (rows s n) there ∙ so_far.same_keys;
+        same_keys = ap keys r.rows_are ∙ keys_stay (Some 1) (λ c. c + 1) k (get_or ps i 0) (rows s n) there ∙ so_far.same_keys;
         counts_fit = rw r.rows_are (counts_change m (2 ^ 31 + (i + 1)) 1 (λ c. c + 1) k (rows s n) (omega arith) (omega arith) (λ d l. omega arith) so_far.counts_fit);
-        left = rw r.rows_are (bump_next ks i (rows s n) more ∙ so_far.left);
+        left = rw r.rows_are (change_next (Some 1) (λ c. c + 1) ks i (rows s n) more ∙ so_far.left);
       }
 
 pub counting_done : (s₀ : List ℕ) (n : ℕ) (ks s : List ℕ) (i : ℕ) → Counting s₀ n ks s i → length ks ≤ i → Rewritten s₀ s n (bump_all ks (rows s₀ n))
@@ -144,8 +145,8 @@ nothing_new (a ∷ b ∷ p) rs r h l =
     ∙ ap (touch_all (listed_keys (b ∷ p))) child
     ∙ nothing_new (b ∷ p) rs r.1 h (λ j m. l (suc j) (omega arith))
 
-pub all_stand : (s : List ℕ) (n : ℕ) (path ps : List ℕ) → Bytes path → Ascends 0 (keys (rows s n)) → EndingsListed (rows s n) → Stand (rows s n) (counted_keys (path_of path)) ps
+pub all_stand : (s : List ℕ) (n : ℕ) (path ps : List ℕ) → Ranks (path_of path) → Ascends 0 (keys (rows s n)) → EndingsListed (rows s n) → Stand (rows s n) (counted_keys (path_of path)) ps
     → touch_all (listed_keys (path_of path)) (rows s n) ≡ rows s n
-all_stand s n path ps bytes asc endings stand =
-    nothing_new (path_of path) (rows s n) (steps_ranks path bytes (length path / 8)) endings
+all_stand s n path ps ranks asc endings stand =
+    nothing_new (path_of path) (rows s n) ranks endings
     (λ j l. stands_listed (rows s n) (get_or (counted_keys (path_of path)) j 0) (get_or ps j 0) asc (stand j l))

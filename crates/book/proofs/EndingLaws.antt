@@ -7,7 +7,7 @@ use native.Mathlib.Nat.{not-suc-le-zero}
 use native.Mathlib.Omega.{arith}
 use mathlib.Core.Bool.{Bool, true, false, ◌&&◌, ◌||◌}
 use mathlib.Core.List.{List, [], ◌∷◌}
-use mathlib.Core.Option.{Option, none, some}
+use Rattle.std.specs.Prelude.{Option, None, Some}
 use lib.Dec.{ltb, eqb}
 use lib.ListN.{length, take}
 use borrow.Author.Tests.{eqb-true}
@@ -113,11 +113,11 @@ listed_touch : (k : ℕ) (rs : List Row) → Listed k (touch k rs)
 listed_touch k rs = go (look k rs) (look_touch k rs)
   where
     go : (o : Option ℕ) → look k (touch k rs) ≡ after_touch o → Listed k (touch k rs)
-    go none e = (0, e)
-    go (some c) e = (c, e)
+    go None e = (0, e)
+    go (Some c) e = (c, e)
 
 ending_keeps : (a : ℕ) (rs : List Row) → EndingsListed rs → EndingsListed (touch (end_key a) rs)
-ending_keeps a rs h = change_keeps (some 0) (λ c. c) (end_key a) rs (rw (node_end a) (listed_touch (end_key a) rs)) h
+ending_keeps a rs h = change_keeps (Some 0) (λ c. c) (end_key a) rs (rw (node_end a) (listed_touch (end_key a) rs)) h
 
 -- an ending is listed, and then a child under it changes
 pub pair_keeps : (new : Option ℕ) (step : ℕ → ℕ) (a b : ℕ) (rs : List Row) → b < 2 ^ 64 → EndingsListed rs → EndingsListed (change new step (child_key a b) (touch (end_key a) rs))
@@ -143,4 +143,4 @@ pairs_keep (a ∷ []) (suc i) rs l r h = absurd (omega arith)
 pairs_keep (a ∷ b ∷ p) zero rs l r h = h
 pairs_keep (a ∷ b ∷ p) (suc i) rs l r h =
     let e : 2 * suc i ≡ suc (suc (2 * i)) = omega arith in
-    rw e (pairs_keep (b ∷ p) i (touch (child_key a b) (touch (end_key a) rs)) (omega arith) r.1 (pair_keeps (some 0) (λ c. c) a b rs r.1.0 h))
+    rw e (pairs_keep (b ∷ p) i (touch (child_key a b) (touch (end_key a) rs)) (omega arith) r.1 (pair_keeps (Some 0) (λ c. c) a b rs r.1.0 h))

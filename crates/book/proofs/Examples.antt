@@ -2,7 +2,7 @@
 use mathlib.Core.Path.{◌≡◌, refl}
 use Prim.Native.Nat.{ℕ}
 use mathlib.Core.List.{List, [], ◌∷◌, ◌++◌, map, flat_map}
-use mathlib.Core.Option.{some}
+use Rattle.std.specs.Prelude.{Some}
 use lib.ListN.{replicate}
 use Rattle.priors.specs.Word.{word, store}
 use Rattle.priors.specs.Address.{lift, rank}
@@ -142,6 +142,6 @@ places_are : map (λ n. places_in (replicate n 0)) (0 ∷ 1 ∷ 515 ∷ 516 ∷ 
 places_are = refl
 
 -- in a book of one entry the first of three paths is taken; the second has no room, and the third, which has, is not tried
-stopped_is : let a = (recount_step (restarted 0 24 0) (add_paths (place 1 high ++ place 1 low ++ place 1 high))).0 in (a.number ≡ 12) × (a.taken ≡ some 1)
+stopped_is : let a = (recount_step (restarted 0 24 0) (add_paths (place 1 high ++ place 1 low ++ place 1 high))).0 in (a.number ≡ 12) × (a.taken ≡ Some 1)
 unfolding recount_step batched lent_path path_in add_refusal listing enter_all enter flat_map listed_keys steps_of word rank lift end_key child_key key_of
 stopped_is = (refl, refl)

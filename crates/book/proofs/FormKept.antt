@@ -5,7 +5,7 @@ use mathlib.Core.Logic.{inl, inr, ⊎_elim}
 use Prim.Native.Nat.{ℕ, zero, suc, ◌+◌, ◌-◌, ◌*◌, ◌/◌, ◌^◌, ◌≤◌, ◌<◌}
 use native.Mathlib.Omega.{arith}
 use mathlib.Core.List.{List, [], ◌∷◌, ◌++◌}
-use mathlib.Core.Option.{Option, none, some}
+use Rattle.std.specs.Prelude.{Option, None, Some}
 use mathlib.Core.Bool.{true}
 use lib.Dec.{leb, ltb}
 use lib.ListN.{length, drop, length-append, length-drop, length-map}
@@ -56,8 +56,8 @@ abbrev AllGood : List Row → Type 0
 AllGood rs = All (λ (r : Row). Good r.key) rs
 
 good_front : (k : ℕ) (rs : List Row) (new : Option ℕ) → Good k → AllGood rs → AllGood (front k new rs)
-good_front k rs none g h = h
-good_front k rs (some c) g h = (g, h)
+good_front k rs None g h = h
+good_front k rs (Some c) g h = (g, h)
 
 good_change : (new : Option ℕ) (step : ℕ → ℕ) (k : ℕ) (rs : List Row) → Good k → AllGood rs → AllGood (change new step k rs)
 unfolding change
@@ -75,12 +75,12 @@ good_changes new step [] rs g h = h
 good_changes new step (k ∷ ks) rs g h = good_changes new step ks (change new step k rs) g.1 (good_change new step k rs g.0 h)
 
 -- taking away lists nothing
-keys_fade : (step : ℕ → ℕ) (k : ℕ) (rs : List Row) → keys (change none step k rs) ≡ keys rs
+keys_fade : (step : ℕ → ℕ) (k : ℕ) (rs : List Row) → keys (change None step k rs) ≡ keys rs
 unfolding change
 keys_fade step k [] = refl
 keys_fade step k (r ∷ rs) = go (side k r.key) (keys_fade step k rs)
   where
-    go : Side k r.key → keys (change none step k rs) ≡ keys rs → keys (change none step k (r ∷ rs)) ≡ keys (r ∷ rs)
+    go : Side k r.key → keys (change None step k rs) ≡ keys rs → keys (change None step k (r ∷ rs)) ≡ keys (r ∷ rs)
     go (below l e) ih = rw e
     go (same q e) ih = rw e
     go (above l e) ih = rw (e, ih)
@@ -88,7 +88,7 @@ keys_fade step k (r ∷ rs) = go (side k r.key) (keys_fade step k rs)
 keys_fades : (ks : List ℕ) (rs : List Row) → keys (fade_all ks rs) ≡ keys rs
 unfolding change_all
 keys_fades [] rs = refl
-keys_fades (k ∷ ks) rs = keys_fades ks (change none (λ c. c - 1) k rs) ∙ keys_fade (λ c. c - 1) k rs
+keys_fades (k ∷ ks) rs = keys_fades ks (change None (λ c. c - 1) k rs) ∙ keys_fade (λ c. c - 1) k rs
 
 -- it is a matter of the keys alone
 good_keys : (rs rs' : List Row) → keys rs ≡ keys rs' → AllGood rs → AllGood rs'
@@ -212,7 +212,7 @@ module _ (m : Machine) (path : List ℕ) (bytes : All (λ b. b < 256) path) (s :
   ranks = steps_ranks path (all_bytes path bytes) (length path / 8)
 
   good_half : AllGood half
-  good_half = good_changes (some 1) (λ c. c + 1) (counted_keys p) (touch_all (listed_keys p) rs) (good_counted p ranks) (good_changes (some 0) (λ c. c) (listed_keys p) rs (good_listed p ranks) s.good)
+  good_half = good_changes (Some 1) (λ c. c + 1) (counted_keys p) (touch_all (listed_keys p) rs) (good_counted p ranks) (good_changes (Some 0) (λ c. c) (listed_keys p) rs (good_listed p ranks) s.good)
 
   good_after : AllGood after
   good_after = good_keys half after (sym (keys_fades (left_keys (leaving t m.queue)) half)) good_half
@@ -245,7 +245,7 @@ module _ (m : Machine) (path : List ℕ) (bytes : All (λ b. b < 256) path) (s :
         rows_are = ap (rows s₂) (sym same_number) ∙ second.1.rows_are;
         rest_is = ap (λ (k : ℕ). drop (24 * k) s₂) (sym same_number) ∙ second.1.rest_is ∙ ap (λ (k : ℕ). drop (24 * k) m.book) same_number ∙ sym first.1.rest_is;
       }) in
-      let on = going_on t m.book m.queue path s.going passed.0 passed.1 passed.2 (all_bytes path bytes) s₁ (length half) first.0 first.1 s₂ (second.0 ∙ sym first.0) again in
+      let on = going_on t m.book m.queue path s.going passed.0 passed.1 passed.2 (steps_ranks path (all_bytes path bytes) (length path / 8)) s₁ (length half) first.0 first.1 s₂ (second.0 ∙ sym first.0) again in
       record {
         going = rw (same_number) on;
         window_le = s.window_le;

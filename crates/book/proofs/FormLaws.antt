@@ -1,16 +1,17 @@
 -- The form by its tests: of an entry from its fields, of entries one after the other, of the queue's lengths; and what the form tells an add. Assumes nothing.
 use mathlib.Core.Path.{◌≡◌, refl, sym, ap, ap₂, ◌∙◌}
 use mathlib.Core.Bool.{Bool, true, false, ◌&&◌, ◌||◌}
-use Prim.Native.Nat.{ℕ, zero, suc, ◌+◌, ◌-◌, ◌*◌, ◌^◌, ◌≤◌, ◌<◌, zero-le}
+use Prim.Native.Nat.{ℕ, zero, suc, ◌+◌, ◌*◌, ◌^◌, ◌≤◌, ◌<◌, zero-le}
 use mathlib.Core.Logic.{◌⊎◌, inl, inr, ⊎_elim}
-use native.Mathlib.Nat.{not-suc-le-zero, le_of_suc-le-suc, eq-or-lt_of_le}
+use native.Mathlib.Nat.{zero-add, add-zero, not-suc-le-zero, le_of_suc-le-suc, eq-or-lt_of_le}
 use native.Mathlib.Numerals.{add-one}
+use Rattle.std.specs.List.{list_all, range_with_len}
 use native.Mathlib.Omega.{arith}
 use mathlib.Core.List.{List, [], ◌∷◌}
 use lib.Dec.{ltb, leb, eqb}
 use lib.ListN.{length, get_or, take, drop, drop_of_length-le}
 use lib.Seq.{drop-cons, ext_get_or}
-use borrow.Author.Tests.{le-leb, lt-leb, eq-eqb, ne_eqb, leb-true, ltb-true, eqb-true}
+use borrow.Author.Tests.{eq-eqb, ne_eqb, leb-true, ltb-true, eqb-true}
 use Rattle.priors.specs.Word.{word}
 use Rattle.priors.specs.Rows.{Row, row, keys, Ascends}
 use Rattle.priors.specs.Search.{blank}
@@ -28,10 +29,6 @@ use Rattle.entries.proofs.EntryLaws.{length_rows, get_d_rows, row_take}
 pub and_true : (b : Bool) → b && true ≡ b
 and_true true = refl
 and_true false = refl
-
-and_false : (b : Bool) → b && false ≡ false
-and_false true = refl
-and_false false = refl
 
 -- ---- an entry, from its fields
 
@@ -110,33 +107,26 @@ module _ (s : List ℕ) (n : ℕ) where
 
 -- ---- the queue's lengths
 
-fits : List ℕ → ℕ → Bool
+-- the place numbered i holds a length
+abbrev pub fits : List ℕ → ℕ → Bool
 fits queue i = leb 1 (word queue (place_size * i)) && leb (word queue (place_size * i)) max_steps
 
-module _ (queue : List ℕ) (n i : ℕ) (so_far : lengths_fit queue n ≡ lengths_fit queue i) where
-  last : 0 < i → lengths_fit queue i ≡ lengths_fit queue (i - 1) && fits queue (i - 1)
-  unfolding lengths_fit fits
-  last h =
-      let is : i ≡ suc (i - 1) = omega arith in
-      ap (lengths_fit queue) is
+range_end : (f : ℕ → Bool) (a n : ℕ) → list_all f (range_with_len a (suc n)) ≡ list_all f (range_with_len a n) && f (a + n)
+range_end f a zero = and_true (f a) ∙ ap f (sym (add-zero a))
+range_end f a (suc n) =
+    let at : a + 1 + n ≡ a + suc n = omega arith in
+    ap (λ (b : Bool). f a && b) (range_end f (a + 1) n ∙ ap (λ (k : ℕ). list_all f (range_with_len (a + 1) n) && f k) at)
+    ∙ both (f a) (list_all f (range_with_len (a + 1) n)) (f (a + suc n))
+  where
+    both : (x y z : Bool) → x && (y && z) ≡ (x && y) && z
+    both true y z = refl
+    both false y z = refl
 
-  pub length_short : 0 < i → word queue (516 * (i - 1)) < 1 → false ≡ lengths_fit queue n
-  unfolding fits
-  length_short h l = rw (so_far, last h, lt-leb 1 (word queue (516 * (i - 1))) l) (sym (and_false (lengths_fit queue (i - 1))))
-
-  pub length_long : 0 < i → 1 ≤ word queue (516 * (i - 1)) → 64 < word queue (516 * (i - 1)) → false ≡ lengths_fit queue n
-  unfolding fits
-  length_long h k l = rw (so_far, last h, le-leb 1 (word queue (516 * (i - 1))) k, lt-leb (word queue (516 * (i - 1))) 64 l) (sym (and_false (lengths_fit queue (i - 1))))
-
-  pub length_on : 0 < i → 1 ≤ word queue (516 * (i - 1)) → word queue (516 * (i - 1)) ≤ 64 → lengths_fit queue n ≡ lengths_fit queue (i - 1)
-  unfolding fits
-  length_on h k l = rw (so_far, last h, le-leb 1 (word queue (516 * (i - 1))) k, le-leb (word queue (516 * (i - 1))) 64 l) (and_true (lengths_fit queue (i - 1)))
-
-  pub lengths_done : i ≤ 0 → true ≡ lengths_fit queue n
-  unfolding lengths_fit
-  lengths_done h =
-      let is : i ≡ 0 = omega arith in
-      sym (so_far ∙ ap (lengths_fit queue) is)
+-- lengths that are looked at one after another
+pub lengths_all : (queue : List ℕ) (n : ℕ) → list_all (fits queue) (range_with_len 0 n) ≡ lengths_fit queue n
+unfolding lengths_fit
+lengths_all queue zero = refl
+lengths_all queue (suc n) = range_end (fits queue) 0 n ∙ rw (zero-add, lengths_all queue n)
 
 -- ---- what the form tells
 
@@ -228,7 +218,7 @@ formed_plain (r ∷ rs) h =
 
 -- ---- what the form reads: sizes, the used entries and the lengths of filled places
 
-rows_take : (s : List ℕ) (n : ℕ) → rows (take (24 * n) s) n ≡ rows s n
+pub rows_take : (s : List ℕ) (n : ℕ) → rows (take (24 * n) s) n ≡ rows s n
 rows_take s n =
     let len : length (rows (take (24 * n) s) n) ≡ n = length_rows (take (24 * n) s) n in
     ext_get_or blank (rows (take (24 * n) s) n) (rows s n) (len ∙ sym (length_rows s n)) (λ i l. at i (omega arith))

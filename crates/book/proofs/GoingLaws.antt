@@ -5,16 +5,19 @@ use Prim.Native.Nat.{ℕ, zero, suc, ◌+◌, ◌-◌, ◌*◌, ◌/◌, ◌%◌
 use native.Mathlib.Nat.{mod-eq_of_lt}
 use native.Mathlib.Omega.{arith}
 use mathlib.Core.List.{List, [], ◌∷◌, ◌++◌, append_assoc}
-use mathlib.Core.Option.{Option, none, some}
+use Rattle.std.specs.Prelude.{Option, None, Some, Result, Ok, Err}
 use mathlib.Core.Bool.{Bool, true, false, cond, ◌&&◌}
 use lib.Dec.{leb, eqb}
 use lib.ListN.{length, take, drop, length-append, length-replicate}
 use lib.Seq.{length-take-le}
-use borrow.Author.Tests.{leb-true, le-leb, lt-leb, lt-ltb, le-ltb}
+use borrow.Author.Tests.{leb-true, eqb-true, le-leb, lt-leb, lt-ltb, le-ltb}
 use Rattle.priors.specs.Word.{word, word_bytes, store}
+use Rattle.priors.specs.declared.refusals.Reason.{Reason}
+use Rattle.priors.specs.Refusals.{reason_number}
+use Rattle.priors.proofs.RuleLaws.{reason_some}
 use Rattle.priors.specs.Rows.{Row, look, change, touch, bump, fade}
 use Rattle.priors.proofs.Tests.{three}
-use Rattle.priors.proofs.BelowLaws.{second_true}
+use Rattle.priors.proofs.BelowLaws.{first_true, second_true}
 use Rattle.priors.proofs.Ranks.{Bytes}
 use Rattle.priors.proofs.Orders.{Side, below, same, above, side}
 use Rattle.priors.proofs.RowLaws.{after, look_here, look_change}
@@ -27,8 +30,7 @@ use Rattle.book.specs.Figures.{Listed, Ranks}
 use Rattle.entries.specs.Entries.{rows, Rewritten, CountsUpTo}
 use Rattle.book.specs.Form.{capacity, book_fits, lengths_fit, filled, in_form}
 use Rattle.book.specs.Changes.{EndingsListed, change_all, touch_all, bump_all, fade_all, left_keys}
-use Rattle.book.specs.declared.trackers.Changed.{Changed}
-use Rattle.book.specs.Calls.{Machine, changed_number, changed_state, changed_answer, unless_refused, zeros, listed_rows, leaving, next_place, place_bytes, queue_with, state_after, book_after, add_number, add_state, add_book, add_queue, add_answer}
+use Rattle.book.specs.Calls.{Machine, changed_answer, unless_refused, zeros, listed_rows, leaving, next_place, place_bytes, queue_with, state_after, book_after, add_number, add_state, add_book, add_queue, add_answer}
 use Rattle.book.specs.Batches.{next_number}
 use Rattle.book.specs.Adding.{Leaves, Ready, Going, Gone, next_state}
 use Rattle.book.proofs.Passes.{one_pass}
@@ -38,7 +40,7 @@ use Rattle.book.proofs.Lengths.{listed_change}
 use Rattle.book.proofs.ListingForm.{node_end}
 use Rattle.book.proofs.EndingLaws.{change_keeps, pair_keeps}
 use Rattle.entries.proofs.BookLaws.{counts_rise, counts_change}
-use Rattle.book.proofs.PathLaws.{length_steps, steps_ranks}
+use Rattle.book.proofs.PathLaws.{length_steps}
 use Rattle.book.proofs.StepLaws.{path_low, path_high, path_even}
 use Rattle.book.proofs.FormLaws.{lengths_at}
 use Rattle.book.proofs.CountingLaws.{length_counted}
@@ -46,12 +48,12 @@ use Rattle.book.proofs.CallLaws.{form_book, form_used, form_ascends, form_ending
 
 -- ---- counts
 
-counts_passed : (m : ℕ) (step : ℕ → ℕ) (k : ℕ) (rs : List Row) → ((d : ℕ) → d ≤ m → step d ≤ m) → CountsUpTo m rs → CountsUpTo m (change none step k rs)
+counts_passed : (m : ℕ) (step : ℕ → ℕ) (k : ℕ) (rs : List Row) → ((d : ℕ) → d ≤ m → step d ≤ m) → CountsUpTo m rs → CountsUpTo m (change None step k rs)
 unfolding change
 counts_passed m step k [] hs h = tt
 counts_passed m step k (r ∷ rs) hs h = go (side k r.key) (counts_passed m step k rs hs h.1)
   where
-    go : Side k r.key → CountsUpTo m (change none step k rs) → CountsUpTo m (change none step k (r ∷ rs))
+    go : Side k r.key → CountsUpTo m (change None step k rs) → CountsUpTo m (change None step k (r ∷ rs))
     go (below q e) ih = rw e h
     go (same q e) ih = rw e (hs r.count h.0, h.1)
     go (above q e) ih = rw e (h.0, ih)
@@ -76,28 +78,28 @@ counts_fades m (k ∷ ks) rs h = counts_fades m ks (fade k rs) (counts_passed m 
 -- ---- endings
 
 listed_bump : (k : ℕ) (rs : List Row) → Listed k (bump k rs)
-listed_bump k rs = go (look k rs) (look_here (some 1) (λ c. c + 1) k rs)
+listed_bump k rs = go (look k rs) (look_here (Some 1) (λ c. c + 1) k rs)
   where
-    go : (o : Option ℕ) → look k (bump k rs) ≡ after (some 1) (λ c. c + 1) o → Listed k (bump k rs)
-    go none e = (1, e)
-    go (some c) e = (c + 1, e)
+    go : (o : Option ℕ) → look k (bump k rs) ≡ after (Some 1) (λ c. c + 1) o → Listed k (bump k rs)
+    go None e = (1, e)
+    go (Some c) e = (c + 1, e)
 
 pass_endings : (p : Steps) (rs : List Row) → Ranks p → EndingsListed rs → EndingsListed (one_pass p rs)
 unfolding one_pass
 pass_endings [] rs r h = h
-pass_endings (a ∷ []) rs r h = change_keeps (some 1) (λ c. c + 1) (end_key a) rs (rw (node_end a) (listed_bump (end_key a) rs)) h
-pass_endings (a ∷ b ∷ p) rs r h = pass_endings (b ∷ p) (bump (child_key a b) (touch (end_key a) rs)) r.1 (pair_keeps (some 1) (λ c. c + 1) a b rs r.1.0 h)
+pass_endings (a ∷ []) rs r h = change_keeps (Some 1) (λ c. c + 1) (end_key a) rs (rw (node_end a) (listed_bump (end_key a) rs)) h
+pass_endings (a ∷ b ∷ p) rs r h = pass_endings (b ∷ p) (bump (child_key a b) (touch (end_key a) rs)) r.1 (pair_keeps (Some 1) (λ c. c + 1) a b rs r.1.0 h)
 
 fade_endings : (k : ℕ) (rs : List Row) → EndingsListed rs → EndingsListed (fade k rs)
-fade_endings k rs h j l = listed_change none (λ c. c - 1) k (end_key (node_of j)) rs (h j (back (look j rs) refl))
+fade_endings k rs h j l = listed_change None (λ c. c - 1) k (end_key (node_of j)) rs (h j (back (look j rs) refl))
   where
-    never : (b : Bool) (c : ℕ) → cond b (after none (λ c. c - 1) none) none ≡ some c → ⊥
+    never : (b : Bool) (c : ℕ) → cond b (after None (λ c. c - 1) None) None ≡ Some c → ⊥
     never true c e = let z : ◌≡◌ {A = ℕ} 0 1 = cc in omega arith
     never false c e = let z : ◌≡◌ {A = ℕ} 0 1 = cc in omega arith
 
     back : (o : Option ℕ) → look j rs ≡ o → Listed j rs
-    back (some c) e = (c, e)
-    back none e = absurd (never (eqb j k) l.0 (ap (λ (o : Option ℕ). cond (eqb j k) (after none (λ c. c - 1) o) o) (sym e) ∙ sym (look_change none (λ c. c - 1) k j rs) ∙ l.1))
+    back (Some c) e = (c, e)
+    back None e = absurd (never (eqb j k) l.0 (ap (λ (o : Option ℕ). cond (eqb j k) (after None (λ c. c - 1) o) o) (sym e) ∙ sym (look_change None (λ c. c - 1) k j rs) ∙ l.1))
 
 fades_endings : (ks : List ℕ) (rs : List Row) → EndingsListed rs → EndingsListed (fade_all ks rs)
 unfolding change_all
@@ -191,11 +193,15 @@ module _ (t : Tracker) (book queue : List ℕ) (g : Going t book queue) where
   pub counts_below : CountsUpTo (2 ^ 31) (rows book t.used)
   counts_below = counts_rise (max_count + 64 * t.accepted) (2 ^ 31) (rows book t.used) (omega (arith, g.accepted_fit)) g.counts_fit
 
-  pub used_small : t.used ≤ 16384
+  pub book_small : length book ≤ 24 * 16384
   unfolding book_fits
-  used_small =
+  book_small =
+      let whole : length book % 24 ≡ 0 = eqb-true (length book % 24) 0 (first_true (eqb (length book % 24) 0) (leb 1 (capacity book) && leb (capacity book) 16384) g.book_sized) in
       let most : capacity book ≤ 16384 = leb-true (capacity book) 16384 (second_true (leb 1 (capacity book)) (leb (capacity book) 16384) (second_true (eqb (length book % 24) 0) (leb 1 (capacity book) && leb (capacity book) 16384) g.book_sized)) in
-      omega (arith, g.used_fit)
+      omega arith
+
+  pub used_small : t.used ≤ 16384
+  used_small = omega (arith, g.used_fit, book_small)
 
 -- ---- the number
 
@@ -216,8 +222,8 @@ module _ (t : Tracker) (book queue path : List ℕ) where
   no_room e h r = rw (e, lt-ltb t.accepted max_accepted h, lt-leb (length (listed_rows t book path)) (capacity book) r)
 
   -- a refused path changes nothing
-  pub gone_refused : (n : ℕ) → Going t book queue → next_number (machine t book queue) path ≡ suc n → Gone t book queue path (suc n) t book queue
-  gone_refused n g e = record { number_is = sym e; state_is = refl; book_is = refl; queue_is = refl; going = g }
+  pub gone_refused : (n : ℕ) → Going t book queue → next_number (machine t book queue) path ≡ suc n → {k : ℕ} → k ≡ suc n → {s : List ℕ} → s ≡ book → Gone t book queue path k t s queue
+  gone_refused n g e f h = rw (f, h) (record { number_is = sym e; state_is = refl; book_is = refl; queue_is = refl; going = g })
 
   module _ (form : in_form t book queue ≡ true) where
     -- in form, it is the answer of a single add
@@ -225,14 +231,24 @@ module _ (t : Tracker) (book queue path : List ℕ) where
     unfolding add_number next_number
     formed_number = rw form
 
-    pub gone_answer : (a : Changed) (book' queue' : List ℕ) → Gone t book queue path (changed_number a) (changed_state a) book' queue' → changed_answer a book' queue' ≡ add_answer t book queue path
+    -- from what an add in a list of adds leaves, with the number and the state that are told
+    told_answer : (n : ℕ) (told t' : Tracker) (book' queue' : List ℕ) → Gone t book queue path n t' book' queue' → told ≡ t'
+        → record { number = n; state = Some told; taken = None; book = book'; queue = queue' } ≡ add_answer t book queue path
     unfolding add_state add_book add_queue
-    gone_answer a book' queue' g =
-        let e : changed_number a ≡ add_number t book queue path = g.number_is ∙ sym formed_number in
-        let state : changed_state a ≡ add_state t book queue path = g.state_is ∙ ap (λ (n : ℕ). unless_refused n (state_after t book queue path) t) e in
-        let left : book' ≡ add_book t book queue path = g.book_is ∙ ap (λ (n : ℕ). unless_refused n (book_after t book queue path) book) e in
-        let places : queue' ≡ add_queue t book queue path = g.queue_is ∙ ap (λ (n : ℕ). unless_refused n (queue_with t queue path) queue) e in
-        λ i. record { number = e i; state = some (state i); taken = none; book = left i; queue = places i }
+    told_answer n told t' book' queue' g alike =
+        let e : n ≡ add_number t book queue path = g.number_is ∙ sym formed_number in
+        let state : told ≡ add_state t book queue path = alike ∙ g.state_is ∙ ap (λ (m : ℕ). unless_refused m (state_after t book queue path) t) e in
+        let left : book' ≡ add_book t book queue path = g.book_is ∙ ap (λ (m : ℕ). unless_refused m (book_after t book queue path) book) e in
+        let places : queue' ≡ add_queue t book queue path = g.queue_is ∙ ap (λ (m : ℕ). unless_refused m (queue_with t queue path) queue) e in
+        λ i. record { number = e i; state = Some (state i); taken = None; book = left i; queue = places i }
+
+    pub gone_answer : (t' : Tracker) (book' queue' : List ℕ) → Gone t book queue path 0 t' book' queue' → changed_answer t (Ok t') book' queue' ≡ add_answer t book queue path
+    gone_answer t' book' queue' g = told_answer 0 t' t' book' queue' g refl
+
+    pub refused_answer : (r : Reason) (t' : Tracker) (book' queue' : List ℕ) → Gone t book queue path (reason_number r) t' book' queue' → changed_answer t (Err r) book' queue' ≡ add_answer t book queue path
+    refused_answer r t' book' queue' g =
+        let n = reason_some r in
+        told_answer (reason_number r) t t' book' queue' g (sym (g.state_is ∙ ap (λ (m : ℕ). unless_refused m (state_after t book queue path) t) n.1))
 
 module _ (t : Tracker) (book queue path : List ℕ) (g : Going t book queue) (whole : whole_path path ≡ true) (more : t.accepted < max_accepted)
     (room : length (listed_rows t book path) ≤ capacity book) where
@@ -249,13 +265,13 @@ module _ (t : Tracker) (book queue path : List ℕ) (g : Going t book queue) (wh
     room = room;
   }
 
-  module _ (bytes : Bytes path) (s₁ : List ℕ) (n : ℕ) (len₁ : length s₁ ≡ length book)
+  module _ (ranks : Ranks (path_of path)) (s₁ : List ℕ) (n : ℕ) (len₁ : length s₁ ≡ length book)
       (first : Rewritten book s₁ n (bump_all (counted_keys (path_of path)) (touch_all (listed_keys (path_of path)) (rows book t.used))))
       (s₂ : List ℕ) (len₂ : length s₂ ≡ length s₁) (second : Rewritten s₁ s₂ n (fade_all (left_keys (leaving t queue)) (rows s₁ n))) where
     half_endings : EndingsListed (rows s₁ n)
     half_endings =
         rw (first.rows_are ∙ sym (one_pass_lem (path_of path) (rows book t.used) g.ascends))
-        (pass_endings (path_of path) (rows book t.used) (steps_ranks path bytes (length path / 8)) g.endings_listed)
+        (pass_endings (path_of path) (rows book t.used) ranks g.endings_listed)
 
     half_counts : CountsUpTo (max_count + 64 * (t.accepted + 1)) (rows s₁ n)
     half_counts =
@@ -274,19 +290,19 @@ module _ (t : Tracker) (book queue path : List ℕ) (g : Going t book queue) (wh
         record {
           book_sized = rw len g.book_sized;
           used_fit = omega (arith, half_fits t book queue path ready s₁ n len₁ first);
-          ascends = rw second.rows_are (ascends_all none (λ c. c - 1) (left_keys (leaving t queue)) (rows s₁ n) (half_ascends t book queue path ready s₁ n len₁ first));
+          ascends = rw second.rows_are (ascends_all None (λ c. c - 1) (left_keys (leaving t queue)) (rows s₁ n) (half_ascends t book queue path ready s₁ n len₁ first));
           endings_listed = rw second.rows_are (fades_endings (left_keys (leaving t queue)) (rows s₁ n) half_endings);
           counts_fit = rw second.rows_are (counts_fades (max_count + 64 * (t.accepted + 1)) (left_keys (leaving t queue)) (rows s₁ n) half_counts);
           queue_sized = kept_leaves path whole t queue g.queue_sized n;
           accepted_fit = omega (arith, more);
         }
 
-    pub gone_taken : Bytes s₂ → (t' : Tracker) → t' ≡ next_state t n → (queue' : List ℕ) → queue' ≡ queue_with t queue path → Gone t book queue path 0 t' s₂ queue'
+    pub gone_taken : {s' : List ℕ} → s' ≡ s₂ → Bytes s' → (t' : Tracker) → t' ≡ next_state t n → (queue' : List ℕ) → queue' ≡ queue_with t queue path → Gone t book queue path 0 t' s' queue'
     unfolding state_after next_number
-    gone_taken bytes₂ t' e queue' f = record {
+    gone_taken {s'} d bytes t' e queue' f = record {
       number_is = rw (whole, lt-ltb t.accepted max_accepted more, le-leb (length (listed_rows t book path)) (capacity book) room);
       state_is = e ∙ ap (next_state t) (used_is t book queue path ready s₁ n len₁ first s₂ second);
-      book_is = book_is t book queue path ready s₁ n len₁ first s₂ second bytes₂ len₂;
+      book_is = d ∙ book_is t book queue path ready s₁ n len₁ first s₂ second (rw d at bytes) len₂;
       queue_is = f;
-      going = rw (e, f) going_on;
+      going = rw (e, d, f) going_on;
     }

@@ -5,7 +5,7 @@ use mathlib.Core.Logic.{inl, inr}
 use Prim.Native.Nat.{ℕ, zero, suc, ◌≤◌, ◌<◌}
 use native.Mathlib.Omega.{arith}
 use mathlib.Core.List.{List, [], ◌∷◌, flat_map}
-use mathlib.Core.Option.{Option, none, some}
+use Rattle.std.specs.Prelude.{Option, None, Some}
 use mathlib.Core.Bool.{Bool, true, false, cond}
 use lib.Dec.{ltb}
 use lib.ListN.{length}
@@ -34,8 +34,8 @@ use Rattle.book.proofs.BookImage.{length_image}
 
 -- what a look-up finds of them, by what it found
 abbrev passed : (Row → Bool) → ℕ → Option ℕ → Option ℕ
-passed test j none = none
-passed test j (some c) = cond (test (row j c)) (some c) none
+passed test j None = None
+passed test j (Some c) = cond (test (row j c)) (Some c) None
 
 module _ (test : Row → Bool) where
   ascends_keep : (a : ℕ) (rs : List Row) → Ascends a (keys rs) → Ascends a (keys (keep_where test rs))
@@ -52,7 +52,7 @@ module _ (test : Row → Bool) where
   look_keep a j [] h = refl
   look_keep a j (r ∷ rs) h = go (test r) refl (side j r.key) (look_keep (suc r.key) j rs h.1)
     where
-      later : j < suc r.key → look j (keep_where test rs) ≡ none
+      later : j < suc r.key → look j (keep_where test rs) ≡ None
       later l = look_low j (suc r.key) (keep_where test rs) l (ascends_keep (suc r.key) rs h.1)
 
       go : (b : Bool) → test r ≡ b → Side j r.key → look j (keep_where test rs) ≡ passed test j (look j rs) → look j (cond b (r ∷ keep_where test rs) (keep_where test rs)) ≡ passed test j (look j (r ∷ rs))
@@ -90,7 +90,7 @@ child_same_all k h (p ∷ H) =
 
 -- ---- the rows that the window part lists
 
-some_if : (n c : ℕ) → cond (ltb 0 n) (some c) none ≡ found n c
+some_if : (n c : ℕ) → cond (ltb 0 n) (Some c) None ≡ found n c
 some_if zero c = refl
 some_if (suc n) c = rw (lt-ltb 0 (suc n) (omega arith))
 
@@ -99,7 +99,7 @@ module _ (W : ℕ) (H L : List Steps) (ends : EndsWith W H L) (ranks : AllRanks 
   part = window_part W H
 
   -- a listed key: what the test leaves of its row is what the window part lists
-  listed_count : (j : ℕ) → EndOrChild j → passed (stays (rows_of W H L)) j (some (counted W H j)) ≡ found (occurrences j (flat_map listed_keys part)) (counted W H j)
+  listed_count : (j : ℕ) → EndOrChild j → passed (stays (rows_of W H L)) j (Some (counted W H j)) ≡ found (occurrences j (flat_map listed_keys part)) (counted W H j)
   unfolding stays counted
   listed_count j (inl is) =
       let kind : kind_of j ≡ 0 = ap kind_of is ∙ kind_end (node_of j) in

@@ -4,7 +4,7 @@ use mathlib.Core.Path.{◌≡◌, refl, ap, ◌∙◌}
 use Prim.Native.Nat.{ℕ, zero, suc, ◌+◌, ◌≤◌, ◌<◌}
 use native.Mathlib.Omega.{arith}
 use mathlib.Core.List.{List, [], ◌∷◌}
-use mathlib.Core.Option.{Option, none, some}
+use Rattle.std.specs.Prelude.{Option, None, Some}
 use mathlib.Core.Bool.{Bool, true, false, cond}
 use lib.Dec.{eqb}
 use lib.ListN.{length}
@@ -28,31 +28,31 @@ use Rattle.book.proofs.OnePass.{one_pass_lem}
 pub listed_change : (new : Option ℕ) (step : ℕ → ℕ) (k j : ℕ) (rs : List Row) → Listed j rs → Listed j (change new step k rs)
 listed_change new step k j rs l = go (eqb j k) (look_change new step k j rs ∙ ap (λ (o : Option ℕ). cond (eqb j k) (after new step o) o) l.1)
   where
-    go : (b : Bool) → look j (change new step k rs) ≡ cond b (after new step (some l.0)) (some l.0) → Listed j (change new step k rs)
+    go : (b : Bool) → look j (change new step k rs) ≡ cond b (after new step (Some l.0)) (Some l.0) → Listed j (change new step k rs)
     go true e = (step l.0, e)
     go false e = (l.0, e)
 
 -- a key that was touched has one
 listed_touched : (j : ℕ) (ks : List ℕ) (rs : List Row) → In j ks → Listed j (touch_all ks rs)
-listed_touched j ks rs h = go (occurrences j ks) h (look j rs) (look_all (some 0) (λ c. c) j ks rs)
+listed_touched j ks rs h = go (occurrences j ks) h (look j rs) (look_all (Some 0) (λ c. c) j ks rs)
   where
     go : (n : ℕ) → 0 < n → (o : Option ℕ) → look j (touch_all ks rs) ≡ times n after_touch o → Listed j (touch_all ks rs)
     go zero h o e = absurd (omega arith)
-    go (suc n) h none e = (0, e ∙ touch_some n 0)
-    go (suc n) h (some c) e = (c, e ∙ touch_some n c)
+    go (suc n) h None e = (0, e ∙ touch_some n 0)
+    go (suc n) h (Some c) e = (c, e ∙ touch_some n c)
 
 -- ---- lengths
 
 length_listed_bump : (k : ℕ) (rs : List Row) → Listed k rs → length (bump k rs) ≡ length rs
 length_listed_bump k rs l =
-    let g : gained (look k rs) (some 1) ≡ 0 = ap (λ (o : Option ℕ). gained o (some 1)) l.1 in
-    omega (arith, length_change (some 1) (λ c. c + 1) k rs)
+    let g : gained (look k rs) (Some 1) ≡ 0 = ap (λ (o : Option ℕ). gained o (Some 1)) l.1 in
+    omega (arith, length_change (Some 1) (λ c. c + 1) k rs)
 
 length_bumps : (ks : List ℕ) (rs : List Row) → ((j : ℕ) → In j ks → Listed j rs) → length (bump_all ks rs) ≡ length rs
 unfolding change_all
 length_bumps [] rs h = refl
 length_bumps (k ∷ ks) rs h =
-    length_bumps ks (bump k rs) (λ j i. listed_change (some 1) (λ c. c + 1) k j rs (h j (in_tail j k ks i)))
+    length_bumps ks (bump k rs) (λ j i. listed_change (Some 1) (λ c. c + 1) k j rs (h j (in_tail j k ks i)))
     ∙ length_listed_bump k rs (h k (in_head k k ks refl))
 
 pub length_half : (p : Steps) (rs : List Row) → length (bump_all (counted_keys p) (touch_all (listed_keys p) rs)) ≡ length (touch_all (listed_keys p) rs)
@@ -67,4 +67,4 @@ unfolding one_pass
 pass_grows [] rs = omega arith
 pass_grows (a ∷ []) rs = grows _ _ (end_key a) rs
 pass_grows (a ∷ b ∷ p) rs =
-    omega (arith, grows (some 0) (λ c. c) (end_key a) rs, grows (some 1) (λ c. c + 1) (child_key a b) (touch (end_key a) rs), pass_grows (b ∷ p) (bump (child_key a b) (touch (end_key a) rs)))
+    omega (arith, grows (Some 0) (λ c. c) (end_key a) rs, grows (Some 1) (λ c. c + 1) (child_key a b) (touch (end_key a) rs), pass_grows (b ∷ p) (bump (child_key a b) (touch (end_key a) rs)))

@@ -8,7 +8,7 @@ use Prim.Native.Nat.{ℕ, zero, suc, ◌+◌, ◌^◌, ◌≤◌, ◌<◌}
 use native.Mathlib.Omega.{arith}
 use mathlib.Core.List.Memᴰ
 use mathlib.Core.List.{List, [], ◌∷◌, flat_map, Memᴰ}
-use mathlib.Core.Option.{some}
+use Rattle.std.specs.Prelude.{Some}
 use mathlib.Core.Bool.{cond, ◌&&◌}
 use lib.Dec.{eqb}
 use borrow.Author.Tests.{eq-eqb, ne_eqb}
@@ -147,11 +147,11 @@ total_above f (q ∷ H) p m = go (Memᴰ.cases_cons m) (total_above f H p)
 listed_above : (k : ℕ) (f : Steps → ℕ) (H : List Steps) (rs : List Row) (c : ℕ) → look k rs ≡ found (total f H) c → Listed k rs ↔ Somewhere f H
 listed_above k f H rs c e = (λ l. somewhere f H (there (total f H) l.0 (sym e ∙ l.1)), λ s. (c, e ∙ back (total f H) (omega (arith, total_above f H s.0 s.1, s.2))))
   where
-    there : (n d : ℕ) → found n c ≡ some d → 0 < n
+    there : (n d : ℕ) → found n c ≡ Some d → 0 < n
     there zero d h = let z : ◌≡◌ {A = ℕ} 0 1 = cc in absurd (omega arith)
     there (suc n) d h = omega arith
 
-    back : (n : ℕ) → 0 < n → found n c ≡ some c
+    back : (n : ℕ) → 0 < n → found n c ≡ Some c
     back zero h = absurd (omega arith)
     back (suc n) h = refl
 

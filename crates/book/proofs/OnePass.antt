@@ -3,7 +3,7 @@
 use mathlib.Core.Path.{◌≡◌, refl, sym, ap, ◌∙◌}
 use Prim.Native.Nat.{ℕ, ◌+◌, zero-le}
 use mathlib.Core.List.{List, [], ◌∷◌}
-use mathlib.Core.Option.{Option, none, some}
+use Rattle.std.specs.Prelude.{Option, None, Some}
 use mathlib.Core.Bool.{Bool, true, false, cond}
 use lib.Dec.{eqb}
 use Rattle.priors.specs.Rows.{Row, keys, Ascends, look, change, touch, bump}
@@ -29,25 +29,25 @@ module _ (n m : Option ℕ) (f g : ℕ → ℕ) (swap : (o : Option ℕ) → aft
       go o false false = refl
 
 touch_bump_swap : (o : Option ℕ) → after_touch (after_bump o) ≡ after_bump (after_touch o)
-touch_bump_swap none = refl
-touch_bump_swap (some c) = refl
+touch_bump_swap None = refl
+touch_bump_swap (Some c) = refl
 
 -- a bump enters its key itself
 bump_touch : (k : ℕ) (rs : List Row) → Ascends 0 (keys rs) → bump k (touch k rs) ≡ bump k rs
 bump_touch k rs h =
     ext 0 (bump k (touch k rs)) (bump k rs) (ascends_change _ _ k 0 _ zero-le (ascends_change _ _ k 0 rs zero-le h)) (ascends_change _ _ k 0 rs zero-le h)
-    (λ i. rw (look_change _ _ k i (touch k rs), look_change _ _ k i rs, look_change (some 1) (λ c. c + 1) k i rs) (go (look i rs) (eqb i k)))
+    (λ i. rw (look_change _ _ k i (touch k rs), look_change _ _ k i rs, look_change (Some 1) (λ c. c + 1) k i rs) (go (look i rs) (eqb i k)))
   where
     go : (o : Option ℕ) (b : Bool) → cond b (after_bump (cond b (after_touch o) o)) (cond b (after_touch o) o) ≡ cond b (after_bump o) o
-    go none true = refl
-    go (some c) true = refl
+    go None true = refl
+    go (Some c) true = refl
     go o false = refl
 
 -- a bump may come before many touches
 bump_early : (k : ℕ) (ks : List ℕ) (rs : List Row) → Ascends 0 (keys rs) → bump k (touch_all ks rs) ≡ touch_all ks (bump k rs)
 unfolding change_all
 bump_early k [] rs h = refl
-bump_early k (j ∷ ks) rs h = bump_early k ks (touch j rs) (ascends_change _ _ j 0 rs zero-le h) ∙ ap (touch_all ks) (sym (change_swap (some 0) (some 1) (λ c. c) (λ c. c + 1) touch_bump_swap j k rs h))
+bump_early k (j ∷ ks) rs h = bump_early k ks (touch j rs) (ascends_change _ _ j 0 rs zero-le h) ∙ ap (touch_all ks) (sym (change_swap (Some 0) (Some 1) (λ c. c) (λ c. c + 1) touch_bump_swap j k rs h))
 
 pub one_pass_lem : (p : Steps) (rs : List Row) → Ascends 0 (keys rs) → one_pass p rs ≡ bump_all (counted_keys p) (touch_all (listed_keys p) rs)
 unfolding one_pass listed_keys counted_keys change_all

@@ -4,7 +4,7 @@ use Prim.Native.Nat.{ℕ, zero, suc, ◌+◌, ◌-◌, ◌<◌}
 use mathlib.Core.Path.{◌≡◌}
 use mathlib.Core.Logic.{◌⊎◌}
 use mathlib.Core.List.{List, [], ◌∷◌, ◌++◌}
-use mathlib.Core.Option.{Option, none, some}
+use Rattle.std.specs.Prelude.{Option, None, Some}
 use mathlib.Core.Bool.{cond}
 use lib.Dec.{leb}
 use lib.ListN.{length, get_or}
@@ -15,13 +15,13 @@ use Rattle.book.specs.Recount.{occurrences}
 
 -- what is found of a key that is listed n times: its count c, if n is not 0
 abbrev pub found : ℕ → ℕ → Option ℕ
-found zero c = none
-found (suc n) c = some c
+found zero c = None
+found (suc n) c = Some c
 
 -- the path that leaves the window of W where one more path joins H: the oldest of the last W, if there are W
 unfoldable pub leaving_path : ℕ → List Steps → Option Steps
-leaving_path zero H = none
-leaving_path (suc w) H = cond (leb (suc w) (length H)) (some (get_or H (length H - suc w) [])) none
+leaving_path zero H = None
+leaving_path (suc w) H = cond (leb (suc w) (length H)) (Some (get_or H (length H - suc w) [])) None
 
 -- what a path lists and counts, in one pass over it
 unfoldable pub one_pass : Steps → List Row → List Row
@@ -33,9 +33,9 @@ one_pass (a ∷ b ∷ p) rs = one_pass (b ∷ p) (bump (child_key a b) (touch (e
 
 -- 1 for a key with no row that stands for the first time
 abbrev pub first : Option ℕ → ℕ → ℕ
-first none zero = 1
-first none (suc n) = 0
-first (some c) n = 0
+first None zero = 1
+first None (suc n) = 0
+first (Some c) n = 0
 
 -- how many rows touching the keys ks would bring in after the keys `seen`, told from the rows as they are
 unfoldable pub missing : List Row → List ℕ → List ℕ → ℕ

@@ -1,33 +1,15 @@
--- Zeroing, copying, and a place of the queue as its three parts. Assumes nothing.
+-- Copying, and a place of the queue as its three parts. Assumes nothing.
 use mathlib.Core.Path.{◌≡◌, refl, sym, ap, ap₂, ◌∙◌}
-use Prim.Native.Nat.{ℕ, zero, suc, ◌+◌, ◌-◌, ◌/◌, ◌≤◌, ◌<◌}
-use native.Mathlib.Nat.{zero-add, not-suc-le-zero}
+use Prim.Native.Nat.{ℕ, suc, ◌+◌, ◌-◌, ◌/◌, ◌≤◌, ◌<◌}
+use native.Mathlib.Nat.{zero-add}
 use native.Mathlib.Numerals.{add-one}
 use native.Mathlib.Omega.{arith}
 use mathlib.Core.List.{List, ◌++◌, append_assoc, append-nil}
-use lib.ListN.{length, get_or, take, drop, set, length-append, length-take, length-drop, length-replicate, replicate-append-replicate, drop_of_length-le}
-use lib.Seq.{drop-cons, drop-drop, set_at, append_snoc, take_all, paste-suc}
+use lib.ListN.{length, get_or, take, drop, set, length-append, length-take, length-drop, length-replicate, drop_of_length-le}
+use lib.Seq.{drop-drop, take_all, paste-suc}
 use Rattle.priors.specs.Word.{word_bytes, store}
 use Rattle.priors.proofs.Fields.{length_store, store_store}
 use Rattle.book.specs.Calls.{zeros, place_bytes}
-use Rattle.book.specs.Figures.{in_window}
-
--- ---- zeroing
-
--- a turn of the loop
-pub zero_turn : (s₀ s : List ℕ) (i : ℕ) → i < length s₀ → s ≡ zeros i ++ drop i s₀ → set s i 0 ≡ zeros (i + 1) ++ drop (i + 1) s₀
-zero_turn s₀ s i h e =
-    let x : ℕ = get_or s₀ i 0 in
-    ap (λ (l : List ℕ). set l i 0) (e ∙ ap (λ (l : List ℕ). zeros i ++ l) (drop-cons s₀ i 0 h))
-    ∙ set_at (zeros i) x (drop (suc i) s₀) 0 i (length-replicate i 0)
-    ∙ sym (append_snoc (zeros i) 0 (drop (suc i) s₀))
-    ∙ ap (λ (l : List ℕ). l ++ drop (suc i) s₀) (replicate-append-replicate i 1 0)
-    ∙ ap (λ (k : ℕ). zeros (i + 1) ++ drop k s₀) (sym (add-one i))
-
-pub zero_done : (s₀ s : List ℕ) (i : ℕ) → length s₀ ≡ i → s ≡ zeros i ++ drop i s₀ → s ≡ zeros (length s₀)
-zero_done s₀ s i n e =
-    let past : length s₀ ≤ i = omega arith in
-    e ∙ ap (λ (l : List ℕ). zeros i ++ l) (drop_of_length-le s₀ past) ∙ append-nil (zeros i) ∙ ap zeros (sym n)
 
 -- ---- copying
 
@@ -87,13 +69,3 @@ module _ (s path : List ℕ) (a : ℕ) (in-queue : a + 516 ≤ length s) (short 
         ap₂ (λ (x y : List ℕ). take b x ++ (y ++ drop k₂ (drop b x))) second zero
         ∙ part_store (store (store s a (word_bytes (length path / 8))) (a + 4) path) (zeros (512 - length path)) b k₂ lz
         ∙ stored
-
--- ---- how many paths the window holds
-
-pub window_open : (w n : ℕ) → n < w → n ≡ in_window w n
-window_open zero n h = absurd (not-suc-le-zero h)
-window_open (suc w) n h = omega arith
-
-pub window_full : (w n : ℕ) → (w ≡ 0 → ⊥) → w ≤ n → w ≡ in_window w n
-window_full zero n h l = absurd (h refl)
-window_full (suc w) n h l = omega arith

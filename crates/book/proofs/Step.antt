@@ -5,7 +5,7 @@ use mathlib.Core.Path.{◌≡◌, sym, ap₂, ◌∙◌}
 use Prim.Native.Nat.{ℕ, ◌+◌, ◌-◌}
 use native.Mathlib.Omega.{arith}
 use mathlib.Core.List.{List, [], ◌∷◌, ◌++◌, flat_map}
-use mathlib.Core.Option.{Option}
+use Rattle.std.specs.Prelude.{Option}
 use Rattle.priors.specs.Rows.{Row, keys, Ascends, look}
 use Rattle.book.specs.Path.{Steps, listed_keys, counted_keys}
 use Rattle.book.specs.Changes.{touch_all, bump_all, left_keys, add_rows}

@@ -1,7 +1,7 @@
 -- The steps of a path by their numbers, as they are read from its bytes, and the keys that it lists by theirs. Assumes nothing.
 use mathlib.Core.Path.{◌≡◌, refl, sym, ap, ap₂, ◌∙◌}
 use mathlib.Core.Bool.{true, ◌&&◌}
-use Prim.Native.Nat.{ℕ, zero, suc, ◌+◌, ◌*◌, ◌/◌, ◌%◌, ◌≤◌, ◌<◌}
+use Prim.Native.Nat.{ℕ, zero, suc, ◌+◌, ◌*◌, ◌/◌, ◌%◌, ◌^◌, ◌≤◌, ◌<◌}
 use native.Mathlib.Nat.{not-suc-le-zero, le_of_suc-le-suc, add_assoc}
 use native.Mathlib.Omega.{arith}
 use mathlib.Core.List.{List, [], ◌∷◌}
@@ -16,6 +16,7 @@ use Rattle.priors.proofs.Fields.{word_drop, word_take}
 use Rattle.entries.specs.Limits.{max_steps}
 use Rattle.entries.specs.Keys.{end_key, child_key}
 use Rattle.book.specs.Path.{Steps, steps_of, path_of, whole_path, listed_keys}
+use Rattle.book.specs.Figures.{Ranks}
 use Rattle.book.specs.Calls.{steps_at}
 use Rattle.book.proofs.PathLaws.{length_steps}
 
@@ -31,17 +32,6 @@ get_d_steps s (suc n) (suc i) h =
     ∙ ap₂ rank (word_drop 8 s (8 * i)) (word_drop 8 s (8 * i + 4) ∙ ap (word s) (sym (add_assoc 8 (8 * i) 4)))
     ∙ ap (rank_at s) e
 
--- a step that was read from the bytes is the path's
-module _ (path : List ℕ) (i : ℕ) where
-  pub step_at : i < length path / 8 → (r : ℕ) → r ≡ rank_at path (8 * i) → r ≡ get_or (path_of path) i 0
-  step_at l r e = e ∙ sym (get_d_steps path (length path / 8) i l)
-
-  pub step_more : i + 1 < length path / 8 → i + 1 < length (path_of path)
-  step_more l = omega (arith, length_steps path (length path / 8))
-
-  pub step_last : i + 1 ≡ length path / 8 → i + 1 ≡ length (path_of path)
-  step_last e = e ∙ sym (length_steps path (length path / 8))
-
 -- a lent path that is whole
 module _ (path : List ℕ) (whole : whole_path path ≡ true) where
   pub path_even : length path % 8 ≡ 0
@@ -55,6 +45,9 @@ module _ (path : List ℕ) (whole : whole_path path ≡ true) where
   pub path_high : length path / 8 ≤ 64
   unfolding whole_path
   path_high = leb-true (length path / 8) 64 (second_true (leb 1 (length path / 8)) (leb (length path / 8) max_steps) (second_true (eqb (length path % 8) 0) (leb 1 (length path / 8) && leb (length path / 8) max_steps) whole))
+
+  pub path_length : length path ≤ 512
+  path_length = omega (arith, path_even, path_high)
 
 -- the steps that lie in a place are those of the part that holds them
 steps_part : (s : List ℕ) (m n : ℕ) → 8 * n ≤ m → steps_of (take m s) n ≡ steps_of s n
@@ -104,3 +97,19 @@ listed_child (a ∷ b ∷ p) (suc i) h =
     let e : 2 * suc i + 1 ≡ suc (suc (2 * i + 1)) = omega arith in
     let f : suc i + 1 ≡ suc (i + 1) = omega arith in
     rw (e, f) (listed_child (b ∷ p) i (omega arith))
+
+-- the same by the number of a key
+pub listed_even : (p : Steps) (j : ℕ) → j % 2 ≡ 0 → j + 1 < 2 * length p → get_or (listed_keys p) j 0 ≡ end_key (get_or p (j / 2) 0)
+listed_even p j e h =
+    let at : j ≡ 2 * (j / 2) = omega arith in
+    ap (λ (k : ℕ). get_or (listed_keys p) k 0) at ∙ listed_ending p (j / 2) (omega arith)
+
+pub listed_odd : (p : Steps) (j : ℕ) → (j % 2 ≡ 0 → ⊥) → j + 1 < 2 * length p → get_or (listed_keys p) j 0 ≡ child_key (get_or p (j / 2) 0) (get_or p (j / 2 + 1) 0)
+listed_odd p j e h =
+    let at : j ≡ 2 * (j / 2) + 1 = omega arith in
+    ap (λ (k : ℕ). get_or (listed_keys p) k 0) at ∙ listed_child p (j / 2) (omega arith)
+
+pub ranks_at : (p : Steps) (i : ℕ) → i < length p → Ranks p → get_or p i 0 < 2 ^ 64
+ranks_at [] i h r = absurd (not-suc-le-zero h)
+ranks_at (a ∷ p) zero h r = r.0
+ranks_at (a ∷ p) (suc i) h r = ranks_at p i (le_of_suc-le-suc h) r.1

@@ -1,13 +1,14 @@
 -- What the pass of a tidy reads and leaves, in bytes: the entries from a place on are a row and the entries from the next place on; what stays is moved to the front, and
 -- the places not yet passed are as they were. Assumes nothing.
 use mathlib.Core.Path.{◌≡◌, refl, sym, ap, ap₂, ◌∙◌}
-use Prim.Native.Nat.{ℕ, zero, suc, ◌+◌, ◌-◌, ◌*◌, ◌≤◌, ◌<◌}
+use Prim.Native.Nat.{ℕ, zero, suc, ◌+◌, ◌-◌, ◌*◌, ◌/◌, ◌≤◌, ◌<◌}
 use native.Mathlib.Omega.{arith}
 use mathlib.Core.List.{List, [], ◌∷◌, ◌++◌, append_assoc, append-nil}
 use mathlib.Core.Bool.{true, false}
 use lib.Dec.{ltb}
 use lib.ListN.{length, take, drop, length-append, length-take, length-drop, take-append-drop, drop_of_length-le}
-use lib.Seq.{drop-drop, drop_at, length-take-le}
+use Rattle.std.proofs.lemmas.List.{take-append-le}
+use lib.Seq.{drop-drop, drop_at, length-take-le, take_all}
 use borrow.Author.Tests.{eq-eqb, ne_eqb, lt-ltb}
 use Rattle.priors.specs.Word.{word, store}
 use Rattle.priors.specs.Address.{rank_at}
@@ -18,11 +19,11 @@ use Rattle.entries.specs.Entries.{fields_at, key_at, row_at, rows, row_bytes, by
 use Rattle.book.specs.Form.{formed}
 use Rattle.book.specs.Calls.{zeros, book_of}
 use Rattle.book.specs.Tidy.{kept}
-use Rattle.book.specs.Ahead.{counts_ahead, first_stays, kept_ahead, rows_from, Moved, Turned}
+use Rattle.book.specs.Ahead.{counts_ahead, first_stays, kept_ahead, rows_in, rows_from, Moved}
 use Rattle.priors.proofs.Ranks.{Bytes, word_lt, rank_at_lt}
 use Rattle.entries.proofs.KeyLaws.{key_node, key_kind}
 use Rattle.entries.proofs.EntryLaws.{row_drop, length_rows, rows_append, rows_front, rows_cons, length-row_bytes, length_bytes_of, bytes_of_rows, InRange}
-use Rattle.book.proofs.FormLaws.{row_read}
+use Rattle.book.proofs.FormLaws.{row_read, rows_take}
 use Rattle.entries.proofs.BookLaws.{key_in_range}
 use Rattle.book.proofs.AheadLaws.{kept_ahead_lem}
 
@@ -54,6 +55,17 @@ rows_past : (s : List ℕ) (n i : ℕ) → n ≤ i → rows_from s n i ≡ []
 unfolding rows
 rows_past s n i h = let z : n - i ≡ 0 = omega arith in ap (rows (drop (24 * i) s)) z
 
+-- all entries, and those that are lent from a place on
+rows_all : (s : List ℕ) → rows_from s (length s / 24) 0 ≡ rows_in s
+rows_all s = let n-is : length s / 24 - 0 ≡ length s / 24 = omega arith in ap (rows s) n-is
+
+pub rows_behind : (s : List ℕ) (i : ℕ) → 24 * i ≤ length s → rows_in (take (length s - 24 * i) (drop (24 * i) s)) ≡ rows_from s (length s / 24) i
+rows_behind s i h =
+    let len : length (drop (24 * i) s) ≡ length s - 24 * i = length-drop (24 * i) s in
+    let all : take (length s - 24 * i) (drop (24 * i) s) ≡ drop (24 * i) s = take_all (length s - 24 * i) (drop (24 * i) s) (omega arith) in
+    let n-is : length (drop (24 * i) s) / 24 ≡ length s / 24 - i = omega arith in
+    ap rows_in all ∙ ap (rows (drop (24 * i) s)) n-is
+
 rows_snoc : (s : List ℕ) (n : ℕ) → rows s (suc n) ≡ rows s n ++ row_at s (24 * n) ∷ []
 unfolding rows
 rows_snoc s zero = refl
@@ -67,40 +79,47 @@ above_none n h = lt-ltb 0 n (omega arith)
 
 -- ---- whether some entry of a node counts
 
-module _ (s : List ℕ) (bytes : Bytes s) (n node j : ℕ) where
-  module _ (more : j < n) where
-    pub ahead_other : (rank_at s (24 * j) ≡ node → ⊥) → counts_ahead node (rows_from s n j) ≡ false
+module _ (s : List ℕ) (bytes : Bytes s) (node : ℕ) where
+  pub ahead_start : counts_ahead node (rows_in s) ≡ counts_ahead node (rows_from s (length s / 24) 0)
+  ahead_start = ap (counts_ahead node) (sym (rows_all s))
+
+  module _ (j : ℕ) (so_far : counts_ahead node (rows_in s) ≡ counts_ahead node (rows_from s (length s / 24) j)) where
+    module _ (more : j < length s / 24) where
+      pub ahead_other : (rank_at s (24 * j) ≡ node → ⊥) → false ≡ counts_ahead node (rows_in s)
+      unfolding counts_ahead
+      ahead_other d = sym (so_far ∙ rw (rows_from_lem s (length s / 24) j more, row_node s bytes (24 * j), ne_eqb (rank_at s (24 * j)) node d))
+
+      module _ (same : rank_at s (24 * j) ≡ node) where
+        pub ahead_counts : (word s (24 * j + 20) ≡ 0 → ⊥) → true ≡ counts_ahead node (rows_in s)
+        unfolding counts_ahead
+        ahead_counts d = sym (so_far ∙ rw (rows_from_lem s (length s / 24) j more, row_node s bytes (24 * j), eq-eqb (rank_at s (24 * j)) node same, row_count s (24 * j), above_none (word s (24 * j + 20)) d))
+
+        pub ahead_on : word s (24 * j + 20) ≡ 0 → counts_ahead node (rows_in s) ≡ counts_ahead node (rows_from s (length s / 24) (j + 1))
+        unfolding counts_ahead
+        ahead_on z = so_far ∙ rw (rows_from_lem s (length s / 24) j more, row_node s bytes (24 * j), eq-eqb (rank_at s (24 * j)) node same, row_count s (24 * j), z)
+
+    pub ahead_none : length s / 24 ≤ j → false ≡ counts_ahead node (rows_in s)
     unfolding counts_ahead
-    ahead_other d = rw (rows_from_lem s n j more, row_node s bytes (24 * j), ne_eqb (rank_at s (24 * j)) node d)
+    ahead_none h = sym (so_far ∙ rw (rows_past s (length s / 24) j h))
 
-    module _ (same : rank_at s (24 * j) ≡ node) where
-      pub ahead_counts : (word s (24 * j + 20) ≡ 0 → ⊥) → counts_ahead node (rows_from s n j) ≡ true
-      unfolding counts_ahead
-      ahead_counts d = rw (rows_from_lem s n j more, row_node s bytes (24 * j), eq-eqb (rank_at s (24 * j)) node same, row_count s (24 * j), above_none (word s (24 * j + 20)) d)
+-- ---- whether the first entry stays
 
-      pub ahead_on : word s (24 * j + 20) ≡ 0 → counts_ahead node (rows_from s n j) ≡ counts_ahead node (rows_from s n (j + 1))
-      unfolding counts_ahead
-      ahead_on z = rw (rows_from_lem s n j more, row_node s bytes (24 * j), eq-eqb (rank_at s (24 * j)) node same, row_count s (24 * j), z)
+module _ (s : List ℕ) (bytes : Bytes s) (some : 24 ≤ length s) where
+  first : rows_in s ≡ row_at s 0 ∷ rows_from s (length s / 24) 1
+  first = sym (rows_all s) ∙ rows_from_lem s (length s / 24) 0 (omega arith)
 
-  pub ahead_none : n ≤ j → counts_ahead node (rows_from s n j) ≡ false
-  unfolding counts_ahead
-  ahead_none h = rw (rows_past s n j h)
-
--- ---- whether an entry stays
-
-module _ (s : List ℕ) (bytes : Bytes s) (n i : ℕ) (more : i < n) where
-  pub stays_counted : (word s (24 * i + 20) ≡ 0 → ⊥) → first_stays (rows_from s n i) ≡ true
+  pub stays_counted : (word s 20 ≡ 0 → ⊥) → true ≡ first_stays (rows_in s)
   unfolding first_stays
-  stays_counted d = rw (rows_from_lem s n i more, row_count s (24 * i), above_none (word s (24 * i + 20)) d)
+  stays_counted d = sym (rw (first, row_count s 0, above_none (word s 20) d))
 
-  module _ (z : word s (24 * i + 20) ≡ 0) where
-    pub child_goes : (word s (24 * i + 8) ≡ 0 → ⊥) → first_stays (rows_from s n i) ≡ false
+  module _ (z : word s 20 ≡ 0) where
+    pub child_goes : (word s 8 ≡ 0 → ⊥) → false ≡ first_stays (rows_in s)
     unfolding first_stays
-    child_goes d = rw (rows_from_lem s n i more, row_count s (24 * i), z, row_kind s bytes (24 * i), ne_eqb (word s (24 * i + 8)) 0 d)
+    child_goes d = sym (rw (first, row_count s 0, z, row_kind s bytes 0, ne_eqb (word s 8) 0 d))
 
-    pub ending_stays : word s (24 * i + 8) ≡ 0 → first_stays (rows_from s n i) ≡ counts_ahead (rank_at s (24 * i)) (rows_from s n (i + 1))
+    pub ending_stays : word s 8 ≡ 0 → counts_ahead (rank_at s 0) (rows_in (take (length s - 24) (drop 24 s))) ≡ first_stays (rows_in s)
     unfolding first_stays
-    ending_stays k = rw (rows_from_lem s n i more, row_count s (24 * i), z, row_kind s bytes (24 * i), k, row_node s bytes (24 * i))
+    ending_stays k = ap (counts_ahead (rank_at s 0)) (rows_behind s 1 some) ∙ sym (rw (first, row_count s 0, z, row_kind s bytes 0, k, row_node s bytes 0))
 
 -- ---- a move
 
@@ -148,41 +167,16 @@ module _ (s : List ℕ) (bytes : Bytes s) (from to : ℕ) (k : Key) (count : ℕ
             ∙ ap (λ (i : ℕ). drop i s) (sym at);
       }
 
--- ---- a turn
+-- ---- the pass
 
 drop_further : (s s' : List ℕ) (a b : ℕ) → a ≤ b → drop a s' ≡ drop a s → drop b s' ≡ drop b s
 drop_further s s' a b h e =
     let at : a + (b - a) ≡ b = omega arith in
     ap (λ (n : ℕ). drop n s') (sym at) ∙ sym (drop-drop (b - a) a s') ∙ ap (drop (b - a)) e ∙ drop-drop (b - a) a s ∙ ap (λ (n : ℕ). drop n s) at
 
-module _ (s : List ℕ) (n i to : ℕ) (more : i < n) (low : to ≤ i) where
-  pub turned_out : first_stays (rows_from s n i) ≡ false → Turned s s n i to to
-  unfolding kept_ahead
-  turned_out e =
-      let goes : first_stays (row_at s (24 * i) ∷ rows_from s n (i + 1)) ≡ false = ap first_stays (sym (rows_from_lem s n i more)) ∙ e in
-      let is : kept_ahead (rows_from s n i) ≡ kept_ahead (rows_from s n (i + 1)) = ap kept_ahead (rows_from_lem s n i more) ∙ rw goes in
-      record { number_le = omega arith; rows_are = ap (λ (l : List Row). rows s to ++ l) (sym is); rest_is = refl }
-
-  pub turned_in : (s' : List ℕ) → first_stays (rows_from s n i) ≡ true → Moved s s' i to → Turned s s' n i to (to + 1)
-  unfolding kept_ahead
-  turned_in s' e m =
-      let comes : first_stays (row_at s (24 * i) ∷ rows_from s n (i + 1)) ≡ true = ap first_stays (sym (rows_from_lem s n i more)) ∙ e in
-      let is : kept_ahead (rows_from s n i) ≡ row_at s (24 * i) ∷ kept_ahead (rows_from s n (i + 1)) = ap kept_ahead (rows_from_lem s n i more) ∙ rw comes in
-      record {
-        number_le = omega arith;
-        rows_are =
-            ap (λ (l : List Row). l ++ kept_ahead (rows_from s n (i + 1))) m.rows_are
-            ∙ append_assoc (rows s to) (row_at s (24 * i) ∷ []) (kept_ahead (rows_from s n (i + 1)))
-            ∙ ap (λ (l : List Row). rows s to ++ l) (sym is);
-        rest_is = drop_further s s' (24 * (to + 1)) (24 * (i + 1)) (omega arith) m.rest_is;
-      }
-
--- ---- the pass
-
 -- after i entries of n, `to` of them kept
 pub record Closing (s₀ : List ℕ) (n : ℕ) (s : List ℕ) (to i : ℕ) : Type 0 where
   pub number_le : to ≤ i
-  pub passed_le : i ≤ n
   pub rows_are : rows s to ++ kept_ahead (rows_from s₀ n i) ≡ kept_ahead (rows s₀ n)
   pub rest_is : drop (24 * i) s ≡ drop (24 * i) s₀
   pub same_length : length s ≡ length s₀
@@ -191,30 +185,68 @@ pub closing_start : (s : List ℕ) (n : ℕ) → Closing s n s 0 0
 unfolding rows
 closing_start s n =
     let n-is : n - 0 ≡ n = omega arith in
-    record { number_le = omega arith; passed_le = omega arith; rows_are = ap (λ (k : ℕ). kept_ahead (rows s k)) n-is; rest_is = refl; same_length = refl }
+    record { number_le = omega arith; rows_are = ap (λ (k : ℕ). kept_ahead (rows s k)) n-is; rest_is = refl; same_length = refl }
 
-pub closing_on : (s₀ : List ℕ) (n : ℕ) (s s' : List ℕ) (to to' i : ℕ) → i < n → length s' ≡ length s → Closing s₀ n s to i → Turned s s' n i to to' → Closing s₀ n s' to' (i + 1)
-closing_on s₀ n s s' to to' i more len c t =
-    let here : rows_from s n i ≡ rows_from s₀ n i = ap (λ (l : List ℕ). rows l (n - i)) c.rest_is in
-    let rest : drop (24 * (i + 1)) s ≡ drop (24 * (i + 1)) s₀ = drop_further s₀ s (24 * i) (24 * (i + 1)) (omega arith) c.rest_is in
-    let next : rows_from s n (i + 1) ≡ rows_from s₀ n (i + 1) = ap (λ (l : List ℕ). rows l (n - (i + 1))) rest in
-    record {
-      number_le = t.number_le;
-      passed_le = omega arith;
-      rows_are =
-          ap (λ (l : List Row). rows s' to' ++ kept_ahead l) (sym next)
-          ∙ t.rows_are
-          ∙ ap (λ (l : List Row). rows s to ++ kept_ahead l) here
-          ∙ c.rows_are;
-      rest_is = t.rest_is ∙ rest;
-      same_length = len ∙ c.same_length;
-    }
+module _ (s₀ : List ℕ) (n : ℕ) (s : List ℕ) (to i : ℕ) (more : i < n) (c : Closing s₀ n s to i) where
+  here : rows_from s n i ≡ row_at s (24 * i) ∷ rows_from s₀ n (i + 1)
+  here =
+      let rest : drop (24 * (i + 1)) s ≡ drop (24 * (i + 1)) s₀ = drop_further s₀ s (24 * i) (24 * (i + 1)) (omega arith) c.rest_is in
+      rows_from_lem s n i more ∙ ap (λ (l : List ℕ). row_at s (24 * i) ∷ rows l (n - (i + 1))) rest
+
+  so_far : rows s to ++ kept_ahead (row_at s (24 * i) ∷ rows_from s₀ n (i + 1)) ≡ kept_ahead (rows s₀ n)
+  so_far = ap (λ (l : List Row). rows s to ++ kept_ahead l) (sym here ∙ ap (λ (l : List ℕ). rows l (n - i)) c.rest_is) ∙ c.rows_are
+
+  pub closing_past : first_stays (rows_from s n i) ≡ false → Closing s₀ n s to (i + 1)
+  unfolding kept_ahead
+  closing_past e = record {
+    number_le = omega (arith, c.number_le);
+    rows_are = rw (ap first_stays (sym here) ∙ e) at so_far;
+    rest_is = drop_further s₀ s (24 * i) (24 * (i + 1)) (omega arith) c.rest_is;
+    same_length = c.same_length;
+  }
+
+  pub closing_on : (s' : List ℕ) → length s' ≡ length s → first_stays (rows_from s n i) ≡ true → Moved s s' i to → Closing s₀ n s' (to + 1) (i + 1)
+  unfolding kept_ahead
+  closing_on s' len e m =
+      let left : rows s to ++ row_at s (24 * i) ∷ kept_ahead (rows_from s₀ n (i + 1)) ≡ kept_ahead (rows s₀ n) = rw (ap first_stays (sym here) ∙ e) at so_far in
+      record {
+        number_le = omega (arith, c.number_le);
+        rows_are =
+            ap (λ (l : List Row). l ++ kept_ahead (rows_from s₀ n (i + 1))) m.rows_are
+            ∙ append_assoc (rows s to) (row_at s (24 * i) ∷ []) (kept_ahead (rows_from s₀ n (i + 1)))
+            ∙ left;
+        rest_is = drop_further s s' (24 * (to + 1)) (24 * (i + 1)) (omega (arith, c.number_le)) m.rest_is ∙ drop_further s₀ s (24 * i) (24 * (i + 1)) (omega arith) c.rest_is;
+        same_length = len ∙ c.same_length;
+      }
 
 pub closing_done : (s₀ : List ℕ) (n : ℕ) (s : List ℕ) (to i : ℕ) → n ≤ i → Closing s₀ n s to i → rows s to ≡ kept_ahead (rows s₀ n)
 unfolding kept_ahead
 closing_done s₀ n s to i h c =
     let is : rows s to ++ kept_ahead (rows_from s₀ n i) ≡ rows s to ++ [] = ap (λ (l : List Row). rows s to ++ kept_ahead l) (rows_past s₀ n i h) in
     sym (append-nil (rows s to)) ∙ sym is ∙ c.rows_are
+
+-- what the pass over the first n entries leaves in the whole
+module _ (s : List ℕ) (n : ℕ) (fits : 24 * n ≤ length s) (front : List ℕ) (len : length front ≡ length (take (24 * n) s)) where
+  front_length : length front ≡ 24 * n
+  front_length = len ∙ length-take-le (24 * n) s fits
+
+  pub whole_length : length (front ++ drop (24 * n) s) ≡ length s
+  whole_length = simp (length-append, length-drop) (omega (arith, front_length))
+
+  module _ (m : ℕ) (low : 24 * m ≤ length (take (24 * n) s)) where
+    pub passed_le : m ≤ n
+    passed_le = omega (arith, length-take-le (24 * n) s fits)
+
+    pub passed_rows : rows front m ≡ kept_ahead (rows_in (take (24 * n) s)) → rows (front ++ drop (24 * n) s) m ≡ kept_ahead (rows s n)
+    passed_rows e =
+        let rest : List ℕ = drop (24 * n) s in
+        let inside : 24 * m ≤ length front = omega (arith, len) in
+        let number : length (take (24 * n) s) / 24 ≡ n = omega (arith, length-take-le (24 * n) s fits) in
+        sym (rows_take (front ++ rest) m)
+        ∙ ap (λ (l : List ℕ). rows l m) (take-append-le (24 * m) front rest inside)
+        ∙ rows_take front m
+        ∙ e
+        ∙ ap kept_ahead (ap (rows (take (24 * n) s)) number ∙ rows_take s n)
 
 -- ---- the kept entries, and zeros behind them
 

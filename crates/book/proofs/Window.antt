@@ -4,7 +4,7 @@
 use mathlib.Core.Path.{◌≡◌, refl, ◌∙◌}
 use Prim.Native.Nat.{ℕ, zero, suc, ◌+◌, ◌-◌, ◌≤◌, ◌<◌}
 use mathlib.Core.List.{List, [], ◌∷◌, ◌++◌, flat_map}
-use mathlib.Core.Option.{Option, none, some}
+use Rattle.std.specs.Prelude.{Option, None, Some}
 use mathlib.Core.Bool.{Bool, true, false, cond}
 use native.Mathlib.Omega.{arith}
 use lib.Dec.{leb}
@@ -20,8 +20,8 @@ use Rattle.book.proofs.Occurrences.{occ_paths, occ_one, occ_drop, counted_listed
 
 -- the path that leaves, as a list of one path or none
 abbrev pub left : Option Steps → List Steps
-left none = []
-left (some l) = l ∷ []
+left None = []
+left (Some l) = l ∷ []
 
 pub window_step : (W : ℕ) (H : List Steps) (p : Steps) → left (leaving_path W H) ++ window_part W (H ++ p ∷ []) ≡ window_part W H ++ p ∷ []
 unfolding leaving_path window_part
@@ -34,7 +34,7 @@ window_step (suc w) H p = go (leb (suc w) (length H)) refl
     len : length (H ++ p ∷ []) ≡ suc n
     len = length-append H (p ∷ []) ∙ omega arith
 
-    go : (b : Bool) → leb (suc w) n ≡ b → left (cond b (some (get_or H (n - suc w) [])) none) ++ drop (length (H ++ p ∷ []) - suc w) (H ++ p ∷ []) ≡ drop (n - suc w) H ++ p ∷ []
+    go : (b : Bool) → leb (suc w) n ≡ b → left (cond b (Some (get_or H (n - suc w) [])) None) ++ drop (length (H ++ p ∷ []) - suc w) (H ++ p ∷ []) ≡ drop (n - suc w) H ++ p ∷ []
     go true t =
         let l : suc w ≤ n = leb-true (suc w) n t in
         let at : length (H ++ p ∷ []) - suc w ≡ suc (n - suc w) = omega (arith, len) in
@@ -49,8 +49,8 @@ window_step (suc w) H p = go (leb (suc w) (length H)) refl
 
 left_keys_lem : (k : ℕ) (o : Option Steps) → occurrences k (flat_map counted_keys (left o)) ≡ occurrences k (left_keys o)
 unfolding flat_map
-left_keys_lem k none = refl
-left_keys_lem k (some l) = occ_one counted_keys k l
+left_keys_lem k None = refl
+left_keys_lem k (Some l) = occ_one counted_keys k l
 
 -- how often a key is counted, before and after
 pub counted_step : (W : ℕ) (H : List Steps) (p : Steps) (k : ℕ)

@@ -1,11 +1,11 @@
 -- What only the inner functions of an add say of each other: where a path's keys stand, what became of a path, and what an add leans on and hands to the next. Assumes
 -- nothing.
-use Rattle.std.specs.Prelude.{ℕ, ◌+◌, ◌*◌, ◌^◌, ◌≤◌, ◌<◌, ◌≡◌, true, List, length, get_or}
+use Rattle.std.specs.Prelude.{ℕ, ◌+◌, ◌*◌, ◌^◌, ◌≤◌, ◌<◌, ◌≡◌, true, List, length, get_or, Result, Ok, Err}
+use Rattle.priors.specs.declared.refusals.Reason.{Reason}
+use Rattle.priors.specs.declared.refusals.Reason.TheVariants.{BookFull}
 use Rattle.priors.specs.Rows.{Row, keys, Ascends}
 use Rattle.priors.specs.Search.{holds}
 use Rattle.book.specs.declared.trackers.Tracker.{Tracker}
-use Rattle.book.specs.declared.counting.Counted.{Counted}
-use Rattle.book.specs.declared.counting.Counted.TheVariants.{Used, Full}
 use Rattle.entries.specs.Limits.{max_accepted, max_count, max_steps, entry_size, place_size}
 use Rattle.entries.specs.Entries.{rows, Rewritten, CountsUpTo}
 use Rattle.book.specs.Path.{path_of, whole_path, listed_keys, counted_keys}
@@ -24,10 +24,10 @@ Stand rs ks ps = (j : ℕ) → j < length ks → holds rs (get_or ps j 0) (get_o
 abbrev pub with_listed : List ℕ → ℕ → List ℕ → List Row
 with_listed s n path = touch_all (listed_keys (path_of path)) (rows s n)
 
--- s' is s with the path listed and counted, where the entries are within the limit then; else it is s
-abbrev pub Outcome : List ℕ → List ℕ → ℕ → List ℕ → ℕ → Counted → Type 0
-Outcome s s' n path limit (Used m) = (length (with_listed s n path) ≤ limit) × Rewritten s s' m (bump_all (counted_keys (path_of path)) (with_listed s n path))
-Outcome s s' n path limit Full = (limit < length (with_listed s n path)) × (s' ≡ s)
+-- s' is s with the path listed and counted, where the entries are within the limit then, and m of its entries are used; else it is s, and as many are used as were
+abbrev pub Outcome : List ℕ → List ℕ → ℕ → ℕ → List ℕ → ℕ → Result (Unit {0}) Reason → Type 0
+Outcome s s' n m path limit (Ok x) = (length (with_listed s n path) ≤ limit) × Rewritten s s' m (bump_all (counted_keys (path_of path)) (with_listed s n path))
+Outcome s s' n m path limit (Err r) = (r ≡ BookFull) × (limit < length (with_listed s n path)) × (s' ≡ s) × (m ≡ n)
 
 -- ---- what an add leans on once no test turns it back
 

@@ -1,6 +1,6 @@
 -- How the code tells which entries stay, in one pass: in a formed book a node's entries stand together, its ending first, so an ending's node is told by reading on to the
 -- next node (`kept_ahead_lem` of proofs/AheadLaws.antt: these are the rows that `kept` names). Then what one move and one turn of the pass leave. Assumes nothing.
-use Rattle.std.specs.Prelude.{ℕ, ◌+◌, ◌-◌, ◌*◌, ◌≤◌, ◌≡◌, List, [], ◌∷◌, ◌++◌, Bool, false, cond, ◌&&◌, ◌||◌, ltb, eqb, drop}
+use Rattle.std.specs.Prelude.{ℕ, ◌+◌, ◌-◌, ◌*◌, ◌/◌, ◌≡◌, List, [], ◌∷◌, ◌++◌, Bool, false, cond, ◌&&◌, ◌||◌, ltb, eqb, length, drop}
 use Rattle.priors.specs.Rows.{Row}
 use Rattle.entries.specs.Limits.{entry_size}
 use Rattle.entries.specs.Keys.{node_of, kind_of}
@@ -26,13 +26,11 @@ kept_ahead (r ∷ rs) = cond (first_stays (r ∷ rs)) (r ∷ kept_ahead rs) (kep
 abbrev pub rows_from : List ℕ → ℕ → ℕ → List Row
 rows_from s n i = rows (drop (entry_size * i) s) (n - i)
 
+-- all entries of s
+abbrev pub rows_in : List ℕ → List Row
+rows_in s = rows s (length s / entry_size)
+
 -- the entry at the place `from` stands at the place `to` as well, behind those before it; nothing past it is changed
 pub record Moved (s s' : List ℕ) (from to : ℕ) : Type 0 where
   pub rows_are : rows s' (to + 1) ≡ rows s to ++ row_at s (entry_size * from) ∷ []
   pub rest_is : drop (entry_size * (to + 1)) s' ≡ drop (entry_size * (to + 1)) s
-
--- the entry at the place i joins the first `to` entries, or is passed over; `to'` is how many there are then
-pub record Turned (s s' : List ℕ) (n i to to' : ℕ) : Type 0 where
-  pub number_le : to' ≤ i + 1
-  pub rows_are : rows s' to' ++ kept_ahead (rows_from s n (i + 1)) ≡ rows s to ++ kept_ahead (rows_from s n i)
-  pub rest_is : drop (entry_size * (i + 1)) s' ≡ drop (entry_size * (i + 1)) s

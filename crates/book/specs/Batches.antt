@@ -1,13 +1,13 @@
 -- A list of paths, lent as places that are laid out like those of a queue: adds one after another behind one test of the form, up to the first that is refused. A number
 -- is a refusal's; 0 is none. Assumes nothing.
 use Rattle.std.specs.Prelude.{ℕ, zero, suc, ◌+◌, ◌-◌, ◌*◌, ◌/◌, cond, List, [], ◌∷◌, ◌++◌, leb, length, take, drop}
-use Rattle.std.proofs.Math.Option.{some}
+use Rattle.std.specs.Prelude.{Some, Result, Ok, Err}
 use Rattle.priors.specs.Word.{word}
 use Rattle.priors.specs.Rules.{first_broken}
-use Rattle.priors.specs.Refusals.{number_of}
+use Rattle.priors.specs.Refusals.{reason_number}
 use Rattle.book.specs.declared.trackers.Tracker.{Tracker}
-use Rattle.book.specs.declared.trackers.Batch.{Batch}
-use Rattle.book.specs.declared.trackers.Batch.TheVariants.{Taken, Stopped}
+use Rattle.book.specs.declared.trackers.Taken.{Taken}
+use Rattle.book.specs.declared.trackers.Stopped.{Stopped}
 use Rattle.entries.specs.Limits.{max_steps, step_size, place_size}
 use Rattle.book.specs.Path.{Steps, path_of}
 use Rattle.book.specs.Form.{in_form}
@@ -77,24 +77,20 @@ batch_of m places = cond (in_form m.state m.book m.queue) (batched next_number w
 
 -- what is told of it
 abbrev pub batch_told : Batched Machine → BookAnswer
-batch_told b = record { number = b.number; state = some b.left.state; taken = some b.taken; book = b.left.book; queue = b.left.queue }
+batch_told b = record { number = b.number; state = Some b.left.state; taken = Some b.taken; book = b.left.book; queue = b.left.queue }
 
 -- what a list of paths answers and leaves
 abbrev pub batch_answer : Tracker → List ℕ → List ℕ → List ℕ → BookAnswer
 batch_answer t book queue places = batch_told (batch_of (record { state = t; book = book; queue = queue }) places)
 
 -- what the code's answer and the lent book and queue afterwards come to
-abbrev pub batched_number : Batch → ℕ
-batched_number (Taken t n) = 0
-batched_number (Stopped r t n) = number_of r
+abbrev pub batched_number : Result Taken Stopped → ℕ
+batched_number (Ok t) = 0
+batched_number (Err s) = reason_number s.reason
 
-abbrev pub batched_state : Batch → Tracker
-batched_state (Taken t n) = t
-batched_state (Stopped r t n) = t
+abbrev pub batched_taken : Result Taken Stopped → Taken
+batched_taken (Ok t) = t
+batched_taken (Err s) = s.taken
 
-abbrev pub batched_taken : Batch → ℕ
-batched_taken (Taken t n) = n
-batched_taken (Stopped r t n) = n
-
-abbrev pub batched_answer : Batch → List ℕ → List ℕ → BookAnswer
-batched_answer a book queue = record { number = batched_number a; state = some (batched_state a); taken = some (batched_taken a); book = book; queue = queue }
+abbrev pub batched_answer : Result Taken Stopped → List ℕ → List ℕ → BookAnswer
+batched_answer a book queue = record { number = batched_number a; state = Some (batched_taken a).tracker; taken = Some (batched_taken a).paths; book = book; queue = queue }

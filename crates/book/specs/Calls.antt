@@ -1,16 +1,13 @@
 -- What an opening and an add answer, and what they leave in the lent book and queue. A number is a refusal's; 0 is none. A list of paths is in
 -- `Batches`, a tidy in `Tidy`. Assumes nothing.
 use Rattle.std.specs.Prelude.{ℕ, zero, suc, ◌+◌, ◌-◌, ◌*◌, ◌%◌, ◌/◌, cond, ◌&&◌, List, [], ◌∷◌, ◌++◌, ltb, leb, length, drop, replicate}
-use Rattle.std.proofs.Math.Option.{Option, none, some}
+use Rattle.std.specs.Prelude.{Option, None, Some, Result, Ok, Err}
 use Rattle.priors.specs.Word.{word, word_bytes, store}
 use Rattle.priors.specs.Rows.{Row}
 use Rattle.priors.specs.Rules.{Rule, rule, first_broken}
-use Rattle.priors.specs.Refusals.{number_of}
+use Rattle.priors.specs.Refusals.{checked_number}
+use Rattle.priors.specs.declared.refusals.Reason.{Reason}
 use Rattle.book.specs.declared.trackers.Tracker.{Tracker}
-use Rattle.book.specs.declared.trackers.Opened.{Opened}
-use Rattle.book.specs.declared.trackers.Opened.TheVariants.{Fresh, Refused as NotOpened}
-use Rattle.book.specs.declared.trackers.Changed.{Changed}
-use Rattle.book.specs.declared.trackers.Changed.TheVariants.{Done, Refused as NotDone}
 use Rattle.entries.specs.Limits.{max_window, max_accepted, max_steps, step_size, place_size}
 use Rattle.entries.specs.Entries.{rows, bytes_of}
 use Rattle.book.specs.Path.{Steps, steps_of, path_of, whole_path, listed_keys}
@@ -41,28 +38,22 @@ pub record BookAnswer : Type 0 where
   pub book : List ℕ
   pub queue : List ℕ
 
-abbrev pub opened_number : Opened → ℕ
-opened_number (Fresh t) = 0
-opened_number (NotOpened r) = number_of r
-
-abbrev pub opened_state : Opened → Option Tracker
-opened_state (Fresh t) = some t
-opened_state (NotOpened r) = none
+-- the state that an opening gives
+abbrev pub opened_state : Result Tracker Reason → Option Tracker
+opened_state (Ok t) = Some t
+opened_state (Err r) = None
 
 -- what the code's answer and the lent book and queue afterwards come to
-abbrev pub opened_answer : Opened → List ℕ → List ℕ → BookAnswer
-opened_answer a book queue = record { number = opened_number a; state = opened_state a; taken = none; book = book; queue = queue }
+abbrev pub opened_answer : Result Tracker Reason → List ℕ → List ℕ → BookAnswer
+opened_answer a book queue = record { number = checked_number a; state = opened_state a; taken = None; book = book; queue = queue }
 
-abbrev pub changed_number : Changed → ℕ
-changed_number (Done t) = 0
-changed_number (NotDone r t) = number_of r
+-- the state that an add or a tidy gives; refused, it is the state as it was
+abbrev pub changed_state : Tracker → Result Tracker Reason → Tracker
+changed_state t (Ok t') = t'
+changed_state t (Err r) = t
 
-abbrev pub changed_state : Changed → Tracker
-changed_state (Done t) = t
-changed_state (NotDone r t) = t
-
-abbrev pub changed_answer : Changed → List ℕ → List ℕ → BookAnswer
-changed_answer a book queue = record { number = changed_number a; state = some (changed_state a); taken = none; book = book; queue = queue }
+abbrev pub changed_answer : Tracker → Result Tracker Reason → List ℕ → List ℕ → BookAnswer
+changed_answer t a book queue = record { number = checked_number a; state = Some (changed_state t a); taken = None; book = book; queue = queue }
 
 -- x where nothing is refused, else y
 abbrev pub unless_refused {ℓ} : {X : Type ℓ} → ℕ → X → X → X
@@ -78,7 +69,7 @@ abbrev pub fresh : ℕ → Tracker
 fresh window = record { window = window; used = 0; accepted = 0 }
 
 unfoldable pub open_state : ℕ → List ℕ → List ℕ → Option Tracker
-open_state window book queue = unless_refused (open_number window book queue) (some (fresh window)) none
+open_state window book queue = unless_refused (open_number window book queue) (Some (fresh window)) None
 
 -- the lent book and the lent queue afterwards
 unfoldable pub open_book : ℕ → List ℕ → List ℕ → List ℕ
@@ -92,7 +83,7 @@ abbrev pub open_answer : ℕ → List ℕ → List ℕ → BookAnswer
 open_answer window book queue = record {
   number = open_number window book queue;
   state = open_state window book queue;
-  taken = none;
+  taken = None;
   book = open_book window book queue;
   queue = open_queue window book queue;
 }
@@ -109,7 +100,7 @@ steps_at queue a = steps_of (drop (a + 4) queue) (word queue a)
 
 -- the oldest path past the window: what lies in the place of the next one, once the window is full
 unfoldable pub leaving : Tracker → List ℕ → Option Steps
-leaving t queue = cond (leb 1 t.window && leb t.window t.accepted) (some (steps_at queue (next_place t))) none
+leaving t queue = cond (leb 1 t.window && leb t.window t.accepted) (Some (steps_at queue (next_place t))) None
 
 -- the rows with the path's nodes and transitions listed
 abbrev pub listed_rows : Tracker → List ℕ → List ℕ → List Row
@@ -160,8 +151,8 @@ add_queue t book queue path = unless_refused (add_number t book queue path) (que
 abbrev pub add_answer : Tracker → List ℕ → List ℕ → List ℕ → BookAnswer
 add_answer t book queue path = record {
   number = add_number t book queue path;
-  state = some (add_state t book queue path);
-  taken = none;
+  state = Some (add_state t book queue path);
+  taken = None;
   book = add_book t book queue path;
   queue = add_queue t book queue path;
 }

@@ -1,6 +1,6 @@
 -- How the rows of a book change where a path is added. Assumes nothing.
 use Rattle.std.specs.Prelude.{ℕ, ◌+◌, ◌-◌, List, [], ◌∷◌}
-use Rattle.std.proofs.Math.Option.{Option, none, some}
+use Rattle.std.specs.Prelude.{Option, None, Some}
 use Rattle.priors.specs.Rows.{Row, change}
 use Rattle.entries.specs.Keys.{end_key, node_of}
 use Rattle.book.specs.Path.{Steps, listed_keys, counted_keys}
@@ -13,20 +13,20 @@ change_all new step (k ∷ ks) rs = change_all new step ks (change new step k rs
 
 -- each key is listed: a missing one comes in with 0
 abbrev pub touch_all : List ℕ → List Row → List Row
-touch_all = change_all (some 0) (λ c. c)
+touch_all = change_all (Some 0) (λ c. c)
 
 -- each key counts one more: a missing one comes in with 1
 abbrev pub bump_all : List ℕ → List Row → List Row
-bump_all = change_all (some 1) (λ c. c + 1)
+bump_all = change_all (Some 1) (λ c. c + 1)
 
 -- each key counts one less, never below 0: a missing one is passed over
 abbrev pub fade_all : List ℕ → List Row → List Row
-fade_all = change_all none (λ c. c - 1)
+fade_all = change_all None (λ c. c - 1)
 
 -- what a leaving path counted
 abbrev pub left_keys : Option Steps → List ℕ
-left_keys none = []
-left_keys (some l) = counted_keys l
+left_keys None = []
+left_keys (Some l) = counted_keys l
 
 -- the path p is added, then l is taken away
 unfoldable pub add_rows : Steps → Option Steps → List Row → List Row

@@ -2,7 +2,7 @@
 -- say (`Calls`, `Batches`, `Tidy`), and a recount that keeps W, H, one number for tidies and two lengths and answers from the papers' tables alone. `image` says which
 -- machine a recount stands for. The claim over every list of calls (`Claims` of divergence) puts the readings beside these. Assumes nothing.
 use Rattle.std.specs.Prelude.{ℕ, ◌*◌, ◌/◌, ◌%◌, ◌<◌, ◌&&◌, List, [], ◌∷◌, ◌++◌, ltb, leb, eqb, length, drop}
-use Rattle.std.proofs.Math.Option.{Option, none, some}
+use Rattle.std.specs.Prelude.{Option, None, Some}
 use Rattle.priors.specs.Rules.{rule, first_broken}
 use Rattle.book.specs.declared.trackers.Tracker.{Tracker}
 use Rattle.book.specs.Path.{Steps, path_of}
@@ -30,8 +30,8 @@ runs step s (c ∷ cs) = let rest = runs step (step s c).1 cs in ((step s c).0 �
 
 -- a state that comes back, with the book and the queue that were lent for it; where none comes back, what there was
 abbrev pub reopened : Option Tracker → List ℕ → List ℕ → Machine → Machine
-reopened none book queue m = m
-reopened (some t) book queue m = record { state = t; book = book; queue = queue }
+reopened None book queue m = m
+reopened (Some t) book queue m = record { state = t; book = book; queue = queue }
 
 -- the machine after a call that gave this answer
 abbrev pub left_by : BookAnswer → Machine → Machine
@@ -113,8 +113,8 @@ recount_step r (opening window book queue) =
     let fresh = restarted window (length book) (length queue) in (
       record {
         number = n;
-        state = unless_refused n (some (image fresh).state) none;
-        taken = none;
+        state = unless_refused n (Some (image fresh).state) None;
+        taken = None;
         book = unless_refused n (image fresh).book book;
         queue = unless_refused n (image fresh).queue queue;
       },
@@ -123,13 +123,13 @@ recount_step r (opening window book queue) =
 recount_step r (add path) =
     let n = add_refusal r path in
     let after = unless_refused n (joined r (path_of path)) r in
-    (record { number = n; state = some (image after).state; taken = none; book = (image after).book; queue = (image after).queue }, after)
+    (record { number = n; state = Some (image after).state; taken = None; book = (image after).book; queue = (image after).queue }, after)
 recount_step r (add_paths places) =
     let b = batched add_refusal joined_by r places (places_in places) in
     (batch_told (record { number = b.number; taken = b.taken; left = image b.left }), b.left)
 recount_step r tidy =
     let after = tidied r in
-    (record { number = 0; state = some (image after).state; taken = none; book = (image after).book; queue = (image after).queue }, after)
+    (record { number = 0; state = Some (image after).state; taken = None; book = (image after).book; queue = (image after).queue }, after)
 
 -- ---- lists of calls
 

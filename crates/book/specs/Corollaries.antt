@@ -2,7 +2,7 @@
 -- tells which transitions and nodes stand in L, and how often in the window part of H; what goes in comes out, a node's counts together being its visits; 12 counts what
 -- L and the path list. Then what single calls leave, what a list of paths is, and what the form reads. Assumes nothing.
 use Rattle.std.specs.Prelude.{ℕ, suc, ◌+◌, ◌*◌, ◌^◌, ◌<◌, ◌≤◌, ◌≡◌, ◌↔◌, List, [], ◌∷◌, ◌++◌, true, false, cond, leb, length, take}
-use Rattle.std.proofs.Math.Option.{Option, none, some}
+use Rattle.std.specs.Prelude.{Option, None, Some}
 use Rattle.priors.specs.Word.{word}
 use Rattle.priors.specs.Rows.{Row, count_of}
 use Rattle.priors.specs.Priors.{count_sum}
@@ -40,8 +40,8 @@ heard_more h ps = record { window = h.window; paths = h.paths ++ ps; lists = h.l
 
 -- as many of the lent places as are told taken
 abbrev pub heard_taken : Heard → List ℕ → Option ℕ → Heard
-heard_taken h places none = h
-heard_taken h places (some n) = heard_more h (lent_paths places n)
+heard_taken h places None = h
+heard_taken h places (Some n) = heard_more h (lent_paths places n)
 
 -- after one more call, by its answer; a refused one changes nothing, but for the paths that a list of paths took before
 abbrev pub heard_with : Heard → BookCall → BookAnswer → Heard
@@ -75,17 +75,17 @@ entries_of m = rows m.book m.state.used
 
 -- a row has the key k
 abbrev pub HasRow : ℕ → List Row → Type 0
-HasRow k rs = (c : ℕ) × (count_of k rs ≡ some c)
+HasRow k rs = (c : ℕ) × (count_of k rs ≡ Some c)
 
 pub record Told (m : Machine) (W : ℕ) (H L : List Steps) : Type 0 where
   -- a transition is listed exactly when it stood in the window at the last tidy, or in a path accepted since
   pub transition_listed : (node child : ℕ) → child < 2 ^ 64 → HasRow (child_key node child) (entries_of m) ↔ Somewhere (transitions node child) L
   -- its count is its occurrences in the window part
-  pub transition_count : (node child : ℕ) → child < 2 ^ 64 → (c : ℕ) → count_of (child_key node child) (entries_of m) ≡ some c → c ≡ total (transitions node child) (window_part W H)
+  pub transition_count : (node child : ℕ) → child < 2 ^ 64 → (c : ℕ) → count_of (child_key node child) (entries_of m) ≡ Some c → c ≡ total (transitions node child) (window_part W H)
   -- a node is listed, with its ending, exactly when it stood in the window at the last tidy, or in a path accepted since
   pub node_listed : (node : ℕ) → HasRow (end_key node) (entries_of m) ↔ Somewhere (occurrences node) L
   -- the ending's count is how many paths of the window part end there
-  pub ending_count : (node c : ℕ) → count_of (end_key node) (entries_of m) ≡ some c → c ≡ total (endings node) (window_part W H)
+  pub ending_count : (node c : ℕ) → count_of (end_key node) (entries_of m) ≡ Some c → c ≡ total (endings node) (window_part W H)
   -- as many entries are used as L has different nodes and different transitions
   pub used_least : m.state.used ≡ least L
   -- after p accepted paths of s steps in all at most 2s - p entries are used

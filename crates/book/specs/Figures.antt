@@ -2,7 +2,8 @@
 -- of divergence) and `Corollaries` are made of them. Then how many paths a window holds, what it is to be within the limits, and what it is to be listed. Assumes nothing.
 use Rattle.std.specs.Prelude.{ℕ, zero, suc, ◌+◌, ◌^◌, ◌<◌, ◌≤◌, min, ◌≡◌, cond, ◌&&◌, eqb, length}
 use mathlib.Core.List.{List, [], ◌∷◌, Memᴰ}
-use Rattle.std.proofs.Math.Option.{some}
+use Rattle.std.specs.Coded.{×_prop, Unit-prop, le_prop}
+use Rattle.std.specs.Prelude.{Some}
 use Rattle.priors.specs.Rows.{Row, look}
 use Rattle.entries.specs.Limits.{max_steps}
 use Rattle.book.specs.Path.{Steps}
@@ -40,6 +41,11 @@ All P (x ∷ xs) = P x × All P xs
 abbrev pub Ranks : Steps → Type 0
 Ranks = All (λ x. x < 2 ^ 64)
 
+-- that is a fact with one proof, so that it can stand beside a path
+pub Ranks-prop : (p : Steps) → IsProp (Ranks p)
+Ranks-prop [] = Unit-prop
+Ranks-prop (x ∷ p) = ×_prop le_prop (Ranks-prop p)
+
 abbrev pub AllRanks : List Steps → Type 0
 AllRanks = All Ranks
 
@@ -54,7 +60,7 @@ AllWhole = All Whole
 
 -- k has a row
 abbrev pub Listed : ℕ → List Row → Type 0
-Listed k rs = (c : ℕ) × (look k rs ≡ some c)
+Listed k rs = (c : ℕ) × (look k rs ≡ Some c)
 
 -- some path of a list has the figure f above 0
 abbrev pub Somewhere : (Steps → ℕ) → List Steps → Type 0

@@ -2,7 +2,7 @@
 -- leaves out what had left the window. It looks at no book and no queue; the images at the end say what bytes stand for W, H and L. Assumes nothing.
 use Prim.Native.Nat.{ℕ, zero, suc, ◌-◌, ◌*◌, ◌%◌, compare}
 use mathlib.Core.List.{List, [], ◌∷◌, ◌++◌, map, flat_map}
-use Rattle.std.proofs.Math.Option.{Option, none, some}
+use Rattle.std.specs.Prelude.{Option, None, Some}
 use Rattle.std.specs.Prelude.{cond, eqb, length, drop}
 use Rattle.priors.specs.Word.{word_bytes}
 use Rattle.priors.specs.Rows.{Row, row, choose}
@@ -58,17 +58,17 @@ book_image W H L size = book_of (rows_of W H L) size
 -- the latest of the paths, numbered from k on, that lies in place j of W; `before` where none does. For H as a whole k starts at 0 and `before` as none
 unfoldable pub held : ℕ → ℕ → ℕ → Option Steps → List Steps → Option Steps
 held W j k before [] = before
-held W j k before (p ∷ H) = held W j (suc k) (cond (eqb (k % W) j) (some p) before) H
+held W j k before (p ∷ H) = held W j (suc k) (cond (eqb (k % W) j) (Some p) before) H
 
 -- a place's bytes: length, steps, zeros; zeros where no path lies
 abbrev pub place_image : Option Steps → List ℕ
-place_image none = zeros place_size
-place_image (some p) = word_bytes (length p) ++ (step_bytes p ++ zeros (step_size * (max_steps - length p)))
+place_image None = zeros place_size
+place_image (Some p) = word_bytes (length p) ++ (step_bytes p ++ zeros (step_size * (max_steps - length p)))
 
 -- the places 0, 1, .. below n, one after another
 unfoldable pub places_image : ℕ → List Steps → ℕ → List ℕ
 places_image W H zero = []
-places_image W H (suc n) = places_image W H n ++ place_image (held W n 0 none H)
+places_image W H (suc n) = places_image W H n ++ place_image (held W n 0 None H)
 
 -- the queue's bytes: the path numbered k lies in place k mod W, zeros elsewhere
 unfoldable pub queue_image : ℕ → List Steps → ℕ → List ℕ

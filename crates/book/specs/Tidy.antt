@@ -1,7 +1,7 @@
 -- What a tidy keeps of a book's rows, what it answers, and what it leaves in the lent book; the queue is lent for its form alone. Only counts decide, also in memory
 -- altered by others. Assumes nothing.
 use Rattle.std.specs.Prelude.{ℕ, List, [], ◌∷◌, Bool, cond, ltb, eqb, length}
-use Rattle.std.proofs.Math.Option.{none, some}
+use Rattle.std.specs.Prelude.{None, Some}
 use Rattle.priors.specs.Rows.{Row}
 use Rattle.priors.specs.Rules.{rule, first_broken}
 use Rattle.book.specs.declared.trackers.Tracker.{Tracker}
@@ -49,8 +49,8 @@ tidy_book t book queue = unless_refused (tidy_number t book queue) (book_of (row
 abbrev pub tidy_answer : Tracker → List ℕ → List ℕ → BookAnswer
 tidy_answer t book queue = record {
   number = tidy_number t book queue;
-  state = some (tidy_state t book queue);
-  taken = none;
+  state = Some (tidy_state t book queue);
+  taken = None;
   book = tidy_book t book queue;
   queue = queue;
 }

@@ -1,96 +1,136 @@
-// A path's steps, added to a book in one pass and taken away again. A path is lent as bytes, 8 a step.
-ghost use Rattle.std.specs.Prelude.{◌≡◌, true, ◌-◌, ◌*◌, ◌^◌, ◌≤◌, length};
-ghost use Rattle.priors.specs.Rows.{keys, Ascends, touch, bump};
-ghost use Rattle.entries.specs.Keys.{end_key, child_key};
+// A path, its steps added to a book in one pass and taken away again. A path is lent as bytes, 8 a step.
+ghost use Rattle.std.specs.Prelude.{◌≡◌, true, ◌+◌, ◌-◌, ◌*◌, ◌/◌, ◌^◌, ◌≤◌, ◌<◌, length, get_or, IfOk, if◌then◌else◌};
+ghost use Rattle.priors.specs.Refusals.{checked_number};
+ghost use Rattle.priors.specs.Rows.{touch, bump};
+ghost use Rattle.entries.specs.Limits.{max_steps};
+ghost use Rattle.entries.specs.Keys.{key_value, end_key, child_key};
 ghost use Rattle.entries.specs.Entries.{rows, Rewritten, CountsUpTo};
 ghost use Rattle.book.specs.Path.{path_of, whole_path, listed_keys, counted_keys};
+ghost use Rattle.book.specs.Figures.{Ranks, Ranks-prop};
 ghost use Rattle.book.specs.Changes.{EndingsListed, touch_all, bump_all, fade_all};
 
-use entries::changes::{fade_key, note, touch};
-use entries::entries::{Found, bump, find, insert};
-use entries::hints::told;
-use entries::keys::{child, ending};
+use entries::entries::EntriesMut;
+use entries::hints::Hints;
+use entries::keys::Key;
 use entries::limits::{MAX_STEPS, STEP_SIZE};
 use priors::addresses::rank_at;
+use priors::refusals::Reason;
 
-// A path has 1 to 64 whole steps.
-pub fn whole_path(path: &[u8]) -> bool
-    ensures { result ≡ whole_path path.now }
-{
-    let n = path.len();
-    if n % STEP_SIZE != 0 {
-        return false;
+// A path of 1 to 64 whole steps.
+#[derive(Clone, Copy)]
+pub struct Path<'a> {
+    pub steps: &'a [u8],
+    pub ghost whole: { whole_path steps.now ≡ true },
+    pub ghost ranks: { Ranks (path_of steps.now) } by { Ranks-prop (path_of steps.now) },
+}
+
+impl<'a> Path<'a> {
+    // Number 10.
+    #[tactic(auto, using(crate::proofs::PathLaws::steps_ranks), unfolding(crate::specs::Path::whole_path))]
+    pub fn check(steps: &'a [u8]) -> Result<Path<'a>, Reason>
+        ensures number { checked_number result ≡ (if whole_path steps.now then 0 else 10) }
+        ensures lent { IfOk result (λ p. p.steps.now ≡ steps.now) }
+    {
+        let n = steps.len() / STEP_SIZE;
+        if steps.len() % STEP_SIZE != 0 || !(1..=MAX_STEPS as usize).contains(&n) {
+            return Err(Reason::PathLength);
+        }
+        Ok(Path { steps })
     }
-    if n / STEP_SIZE < 1 {
-        return false;
+
+    // The number of its steps.
+    #[tactic(auto, using(crate::proofs::StepLaws::path_low, crate::proofs::StepLaws::path_high, crate::proofs::PathLaws::length_steps))]
+    pub(crate) fn len(&self) -> usize
+        ensures value { result ≡ length (path_of self.now.steps.now) }
+        ensures some { 1 ≤ result }
+        ensures few { result ≤ max_steps }
+    {
+        self.steps.len() / STEP_SIZE
     }
-    n / STEP_SIZE <= MAX_STEPS as usize
+
+    // The rank of the step numbered i.
+    #[tactic(auto, using(crate::proofs::PathLaws::length_steps, crate::proofs::StepLaws::get_d_steps))]
+    pub(crate) fn rank(&self, i: usize) -> u64
+        requires { i < length (path_of self.now.steps.now) }
+        ensures { result ≡ get_or (path_of self.now.steps.now) i 0 }
+    {
+        rank_at(self.steps, STEP_SIZE * i)
+    }
+
+    // The key numbered i of those that it counts: the child that follows a step, and at last the ending of the last one.
+    #[tactic(auto, using(crate::proofs::CountingLaws::counted_child, crate::proofs::CountingLaws::counted_ending))]
+    pub(crate) fn counted_key(&self, i: usize) -> Key
+        requires { i < length (path_of self.now.steps.now) }
+        ensures { key_value result ≡ get_or (counted_keys (path_of self.now.steps.now)) i 0 }
+    {
+        let node = self.rank(i);
+        if i == self.len() - 1 {
+            return Key::ending(node);
+        }
+        Key::child(node, self.rank(i + 1))
+    }
+
+    // The key numbered j of those that it lists: a step's ending, then the child that follows it, and so on.
+    #[tactic(auto, using(crate::proofs::StepLaws::listed_odd, crate::proofs::StepLaws::listed_even))]
+    pub(crate) fn listed_key(&self, j: usize) -> Key
+        requires { j + 1 < 2 * length (path_of self.now.steps.now) }
+        ensures { key_value result ≡ get_or (listed_keys (path_of self.now.steps.now)) j 0 }
+    {
+        let i = j / 2;
+        let node = self.rank(i);
+        if j % 2 == 0 {
+            return Key::ending(node);
+        }
+        Key::child(node, self.rank(i + 1))
+    }
 }
 
 // A node is listed and the step from it to the next counts one more. A step that has an entry has its node listed already; before one
-// that has none the node's ending may come in, and then its place is one further up. The result is the number of entries.
-fn add_pair(book: &mut [u8], used: usize, node: u64, next: u64) -> usize
-    requires used_in_bounds { 24 * used ≤ length book.old }
-    requires ascends { Ascends 0 (keys (rows book.old used)) }
-    requires endings_listed { EndingsListed (rows book.old used) }
-    requires counts_up_to { CountsUpTo (2 ^ 32 - 2) (rows book.old used) }
-    requires used_in_bounds_2 { 24 * length (bump (child_key node next) (touch (end_key node) (rows book.old used))) ≤ length book.old }
-    ensures { Rewritten book.old book.new result (bump (child_key node next) (touch (end_key node) (rows book.old used))) }
+// that has none the node's ending may come in, and then its place is one further up.
+fn add_pair(entries: &mut EntriesMut, node: u64, next: u64)
+    requires endings_listed { EndingsListed (rows entries.old.bytes.now entries.old.used) }
+    requires counts_up_to { CountsUpTo (2 ^ 32 - 2) (rows entries.old.bytes.now entries.old.used) }
+    requires room { 24 * length (bump (child_key node next) (touch (end_key node) (rows entries.old.bytes.now entries.old.used))) ≤ length entries.old.bytes.now }
+    ensures same_reference { entries.new.bytes.ghost_name ≡ entries.old.bytes.ghost_name }
+    ensures len { length entries.new.bytes.now ≡ length entries.old.bytes.now }
+    ensures rewritten { Rewritten entries.old.bytes.now entries.new.bytes.now entries.new.used (bump (child_key node next) (touch (end_key node) (rows entries.old.bytes.now entries.old.used))) }
 {
-    let key = child(node, next);
-    match find(book, used, key) {
-        Found::At(i) => {
-            bump(book, i);
-            used
-        }
-        Found::Missing(i) => {
-            let listed = touch(book, used, ending(node));
-            insert(book, listed, i + (listed - used), key, 1);
-            listed + 1
+    let key = Key::child(node, next);
+    match entries.as_ref().find(key) {
+        Ok(i) => entries.bump_at(i),
+        Err(i) => {
+            let before = entries.used;
+            entries.touch(Key::ending(node));
+            entries.insert(i + (entries.used - before), key, 1);
         }
     }
 }
 
-// Lists and counts what a path lists and counts, in one pass over it. The result is the number of entries.
-pub fn add_steps(book: &mut [u8], used: usize, path: &[u8]) -> usize
-    requires path_value { whole_path path.now ≡ true }
-    requires used_in_bounds { 24 * used ≤ length book.old }
-    requires ascends { Ascends 0 (keys (rows book.old used)) }
-    requires endings_listed { EndingsListed (rows book.old used) }
-    requires counts_up_to { CountsUpTo (2 ^ 31) (rows book.old used) }
-    requires used_in_bounds_2 { 24 * length (touch_all (listed_keys (path_of path.now)) (rows book.old used)) ≤ length book.old }
-    ensures { Rewritten book.old book.new result (bump_all (counted_keys (path_of path.now)) (touch_all (listed_keys (path_of path.now)) (rows book.old used))) }
+// Lists and counts what a path lists and counts, in one pass over it.
+pub fn add_steps(entries: &mut EntriesMut, path: &Path)
+    requires endings_listed { EndingsListed (rows entries.old.bytes.now entries.old.used) }
+    requires counts_up_to { CountsUpTo (2 ^ 31) (rows entries.old.bytes.now entries.old.used) }
+    requires room { 24 * length (touch_all (listed_keys (path_of path.now.steps.now)) (rows entries.old.bytes.now entries.old.used)) ≤ length entries.old.bytes.now }
+    ensures same_reference { entries.new.bytes.ghost_name ≡ entries.old.bytes.ghost_name }
+    ensures len { length entries.new.bytes.now ≡ length entries.old.bytes.now }
+    ensures rewritten { Rewritten entries.old.bytes.now entries.new.bytes.now entries.new.used (bump_all (counted_keys (path_of path.now.steps.now)) (touch_all (listed_keys (path_of path.now.steps.now)) (rows entries.old.bytes.now entries.old.used))) }
 {
-    let last = path.len() / STEP_SIZE - 1;
-    let mut listed = used;
-    let mut i = 0;
-    while i < last {
-        let node = rank_at(path, STEP_SIZE * i);
-        let next = rank_at(path, STEP_SIZE * (i + 1));
-        listed = add_pair(book, listed, node, next);
-        i += 1;
+    let last = path.len() - 1;
+    for i in 0..last {
+        add_pair(entries, path.rank(i), path.rank(i + 1));
     }
-    let end = rank_at(path, STEP_SIZE * last);
-    note(book, listed, ending(end))
+    entries.note(Key::ending(path.rank(last)));
 }
 
 // Takes away what a path counted.
-pub fn take_away(book: &mut [u8], used: usize, path: &[u8], hints: &mut [u16], row: usize)
-    requires in_bounds { 8 ≤ length path.now }
-    requires used_in_bounds { 24 * used ≤ length book.old }
-    requires ascends { Ascends 0 (keys (rows book.old used)) }
-    ensures { Rewritten book.old book.new used (fade_all (counted_keys (path_of path.now)) (rows book.old used)) }
+pub(crate) fn take_away(entries: &mut EntriesMut, path: &Path, hints: &mut Hints, row: usize)
+    ensures same_reference { entries.new.bytes.ghost_name ≡ entries.old.bytes.ghost_name }
+    ensures len { length entries.new.bytes.now ≡ length entries.old.bytes.now }
+    ensures rewritten { Rewritten entries.old.bytes.now entries.new.bytes.now entries.new.used (fade_all (counted_keys (path_of path.now.steps.now)) (rows entries.old.bytes.now entries.old.used)) }
+    ensures used { entries.new.used ≡ entries.old.used }
 {
-    let last = path.len() / STEP_SIZE - 1;
-    let mut i = 0;
-    while i < last {
-        let node = rank_at(path, STEP_SIZE * i);
-        let next = rank_at(path, STEP_SIZE * (i + 1));
-        let place = told(hints, row, i);
-        fade_key(book, used, child(node, next), place, hints);
-        i += 1;
+    for i in 0..path.len() {
+        let place = hints.told(row, i);
+        entries.fade(path.counted_key(i), place, hints);
     }
-    let end = rank_at(path, STEP_SIZE * last);
-    let place = told(hints, row, last);
-    fade_key(book, used, ending(end), place, hints);
 }

@@ -1,164 +1,200 @@
-// The state that stands beside the lent book and queue: it goes into a call by value and comes back in the answer.
-ghost use Rattle.std.specs.Prelude.{◌≡◌, true, ◌*◌, ◌≤◌, ◌<◌, length};
-ghost use Rattle.priors.specs.Rows.{keys, Ascends};
-ghost use Rattle.entries.specs.Limits.{max_entries, max_accepted};
+// The state that stands beside the lent book and queue, and the calls on it.
+ghost use Rattle.std.specs.Prelude.{◌≡◌, ◌*◌, ◌≤◌, ◌<◌, ◌+◌, length, IfOk, if◌then◌else◌};
+ghost use Rattle.priors.specs.Refusals.{checked_number};
 ghost use Rattle.entries.specs.Entries.{rows, Rewritten};
+ghost use Rattle.book.specs.Path.{path_of};
 ghost use Rattle.book.specs.Changes.{fade_all, left_keys};
 ghost use Rattle.book.specs.Figures.{in_window};
 ghost use Rattle.book.specs.Form.{in_form};
 ghost use Rattle.book.specs.Tidy.{tidy_answer};
-ghost use Rattle.book.specs.Calls.{opened_answer, changed_number, changed_state, changed_answer, open_answer, add_answer, next_place, leaving, queue_with};
+ghost use Rattle.book.specs.Calls.{opened_answer, changed_answer, open_answer, add_answer, next_place, leaving, queue_with};
 ghost use Rattle.book.specs.Batches.{batched_answer, batch_answer};
-ghost use Rattle.book.specs.Adding.{Leaves, Going, Gone, next_state};
+ghost use Rattle.book.specs.Adding.{Leaves, Going, Gone};
 
-use crate::counting::{Counted, count_path};
-use crate::form::{book_fits, in_form, queue_fits};
-use crate::paths::{take_away, whole_path};
+use crate::counting::count_path;
+use crate::form::{Listing, book_fits, entries_formed, lengths_fit, queue_fits, state_fits};
+use crate::paths::{Path, take_away};
 use crate::places::lent_path;
-use crate::queue::{clear, oldest, put_path};
+use crate::queue::{put_path, steps_in};
 use crate::tidying::drop_zeros;
-use entries::hints::{note_all, row_of};
+use entries::entries::EntriesMut;
+use entries::hints::{Hints, row_of};
 use entries::limits::{ENTRY_SIZE, MAX_ACCEPTED, MAX_WINDOW, PLACE_SIZE};
-use priors::refusals::{Reason, Refusal};
+use priors::refusals::Reason;
 
-#[derive(Clone, Copy)]
+#[derive(Clone, Copy, Debug, PartialEq, Eq)]
 pub struct Tracker {
     pub window: u32,
     pub used: u32,
     pub accepted: u32,
 }
 
-// What an opening answers: the fresh state, or why there is none.
+// What a reading sees of a tracker: its state, and the book and the queue that are lent with it.
 #[derive(Clone, Copy)]
-pub enum Opened {
-    Fresh(Tracker),
-    Refused(Refusal),
+pub struct Seen<'a> {
+    pub tracker: Tracker,
+    pub book: &'a [u8],
+    pub queue: &'a [u8],
 }
 
-// What an add and a tidy answer: the state that they leave, or the state as it was and why.
-#[derive(Clone, Copy)]
-pub enum Changed {
-    Done(Tracker),
-    Refused(Refusal, Tracker),
+// The state with the paths of a list that were taken, and how many these were.
+#[derive(Clone, Copy, Debug, PartialEq, Eq)]
+pub struct Taken {
+    pub tracker: Tracker,
+    pub paths: u32,
 }
 
-// What a list of paths answers: the state with those in it that were taken, and how many these were; and, where one was refused, why.
-#[derive(Clone, Copy)]
-pub enum Batch {
-    Taken(Tracker, u32),
-    Stopped(Refusal, Tracker, u32),
+// Why a list of paths went no further, and what was taken until then.
+#[derive(Clone, Copy, Debug, PartialEq, Eq)]
+pub struct Stopped {
+    pub reason: Reason,
+    pub taken: Taken,
+}
+
+impl<'a> Seen<'a> {
+    // State, book and queue have the form.
+    #[tactic(auto, using(crate::proofs::CallLaws::used_fits, crate::proofs::CallLaws::places_fit), unfolding(crate::specs::Form::in_form))]
+    fn in_form(&self) -> bool
+        ensures { result ≡ in_form self.now.tracker self.now.book.now self.now.queue.now }
+    {
+        let t = self.tracker;
+        book_fits(self.book)
+            && state_fits(t, self.book)
+            && queue_fits(t.window, self.queue)
+            && entries_formed(self.book, t.used as usize)
+            && lengths_fit(self.queue, t.window.min(t.accepted) as usize)
+    }
+
+    // The used entries: 9 for the form.
+    #[tactic(auto, using(crate::proofs::CallLaws::form_used, crate::proofs::CallLaws::form_few, crate::proofs::CallLaws::form_formed))]
+    pub fn listing(&self) -> Result<Listing<'a>, Reason>
+        ensures number { checked_number result ≡ (if in_form self.now.tracker self.now.book.now self.now.queue.now then 0 else 9) }
+        ensures lent { IfOk result (λ l. (l.bytes.now ≡ self.now.book.now) × (l.used ≡ self.now.tracker.used)) }
+    {
+        if !self.in_form() {
+            return Err(Reason::Form);
+        }
+        Ok(Listing {
+            bytes: self.book,
+            used: self.tracker.used as usize,
+        })
+    }
 }
 
 impl Tracker {
     // Opens a tracker: book and queue are zeroed to their ends. 8 for a window over 1,024, 9 for what is lent.
-    pub fn open(window: u32, book: &mut [u8], queue: &mut [u8]) -> Opened
+    #[tactic(auto, unfolding(crate::specs::Calls::open_number, crate::specs::Calls::open_state, crate::specs::Calls::open_book, crate::specs::Calls::open_queue))]
+    pub fn open(window: u32, book: &mut [u8], queue: &mut [u8]) -> Result<Tracker, Reason>
         ensures { opened_answer result book.new queue.new ≡ open_answer window book.old queue.old }
     {
-        if MAX_WINDOW < window {
-            return Opened::Refused(Refusal::Plain(Reason::Window));
+        if window > MAX_WINDOW {
+            return Err(Reason::Window);
         }
-        if !book_fits(book) {
-            return Opened::Refused(Refusal::Plain(Reason::Form));
+        if !book_fits(book) || !queue_fits(window, queue) {
+            return Err(Reason::Form);
         }
-        if !queue_fits(window, queue) {
-            return Opened::Refused(Refusal::Plain(Reason::Form));
-        }
-        clear(book);
-        clear(queue);
-        Opened::Fresh(Tracker {
+        book.fill(0);
+        queue.fill(0);
+        Ok(Tracker {
             window,
             used: 0,
             accepted: 0,
         })
     }
 
-    // Adds a path and takes the oldest past the window away: 9 for the form, 10 for the path, 11 and 12 where it is one too many.
-    pub fn add_path(mut self, book: &mut [u8], queue: &mut [u8], path: &[u8]) -> Changed
-        ensures { changed_answer result book.new queue.new ≡ add_answer self book.old queue.old path.now }
+    // Adds a path and takes the oldest past the window away: 9 for the form, 10 for the path, 11 and 12 where it is one too many. The
+    // result is the state that it leaves; refused, the caller's own stands.
+    pub fn add_path(
+        mut self,
+        book: &mut [u8],
+        queue: &mut [u8],
+        path: &[u8],
+    ) -> Result<Tracker, Reason>
+        ensures { changed_answer self result book.new queue.new ≡ add_answer self book.old queue.old path.now }
     {
-        if !in_form(self, book, queue) {
-            return Changed::Refused(Refusal::Plain(Reason::Form), self);
-        }
+        let seen = Seen {
+            tracker: self,
+            book,
+            queue,
+        };
+        seen.listing()?;
         let mut none = [0u16; 1];
-        self.add_going(book, queue, path, &mut none)
+        let mut hints = Hints::over(&mut none);
+        self.add_going(book, queue, path, &mut hints)?;
+        Ok(self)
     }
 
     // An add in a list of adds, whose form was tested before the first: 10, 11, 12.
     fn add_going(
-        mut self,
+        &mut self,
         book: &mut [u8],
         queue: &mut [u8],
         path: &[u8],
-        hints: &mut [u16],
-    ) -> Changed
-        requires { Going self book.old queue.old }
-        ensures { Gone self book.old queue.old path.now (changed_number result) (changed_state result) book.new queue.new }
+        hints: &mut Hints,
+    ) -> Result<(), Reason>
+        requires { Going self.old book.old queue.old }
+        ensures { Gone self.old book.old queue.old path.now (checked_number result) self.new book.new queue.new }
     {
-        if !whole_path(path) {
-            return Changed::Refused(Refusal::Plain(Reason::PathLength), self);
-        }
-        if MAX_ACCEPTED <= self.accepted {
-            return Changed::Refused(Refusal::Plain(Reason::PathsFull), self);
+        let path = Path::check(path)?;
+        if self.accepted >= MAX_ACCEPTED {
+            return Err(Reason::PathsFull);
         }
         let limit = book.len() / ENTRY_SIZE;
         let row = row_of(self.window, self.accepted as usize);
-        match count_path(book, self.used as usize, path, limit, hints, row) {
-            Counted::Full => Changed::Refused(Refusal::Plain(Reason::BookFull), self),
-            Counted::Used(used) => Changed::Done(self.go_on(book, used, queue, path, hints)),
-        }
-    }
-
-    // The path is counted: the oldest past the window is taken away, and the path is kept.
-    fn go_on(
-        mut self,
-        book: &mut [u8],
-        used: usize,
-        queue: &mut [u8],
-        path: &[u8],
-        hints: &mut [u16],
-    ) -> Tracker
-        requires used_in_bounds { 24 * used ≤ length book.old }
-        requires used_le_max_entries { used ≤ max_entries }
-        requires ascends { Ascends 0 (keys (rows book.old used)) }
-        requires leaves { Leaves self queue.old }
-        requires path_len_bound { length path.now ≤ 512 }
-        requires accepted_lt_max_accepted { self.accepted < max_accepted }
-        ensures value { result ≡ next_state self used }
-        ensures rewritten { Rewritten book.old book.new used (fade_all (left_keys (leaving self queue.old)) (rows book.old used)) }
-        ensures queue_after { queue.new ≡ queue_with self queue.old path.now }
-    {
-        self.let_go(book, used, queue, hints);
-        self.keep(queue, path);
-        let accepted = self.accepted + 1;
-        self.used = used as u32;
-        self.accepted = accepted;
-        self
+        let mut entries = EntriesMut {
+            bytes: book,
+            used: self.used as usize,
+        };
+        count_path(&mut entries, &path, limit, hints, row)?;
+        self.let_go(&mut entries, queue, hints);
+        self.keep(queue, &path);
+        self.used = entries.used as u32;
+        self.accepted += 1;
+        Ok(())
     }
 
     // Adds the paths that lie in lent places, one after another, up to the first that is refused: 9 for the form, tested once, then 10 to
     // 12 for each. Those taken before stay in.
-    pub fn add_paths(mut self, book: &mut [u8], queue: &mut [u8], places: &[u8]) -> Batch
+    pub fn add_paths(
+        mut self,
+        book: &mut [u8],
+        queue: &mut [u8],
+        places: &[u8],
+    ) -> Result<Taken, Stopped>
         ensures { batched_answer result book.new queue.new ≡ batch_answer self book.old queue.old places.now }
     {
-        if !in_form(self, book, queue) {
-            return Batch::Stopped(Refusal::Plain(Reason::Form), self, 0);
-        }
-        let mut hints = [0u16; 49168];
-        note_all(book, self.used as usize, &mut hints, places.len());
-        let mut t = self;
-        let mut taken = 0u32;
-        while PLACE_SIZE * (taken as usize) < places.len() {
-            match t.add_going(book, queue, lent_path(places, taken as usize), &mut hints) {
-                Changed::Refused(r, s) => {
-                    return Batch::Stopped(r, s, taken);
-                }
-                Changed::Done(s) => {
-                    t = s;
-                }
+        let seen = Seen {
+            tracker: self,
+            book,
+            queue,
+        };
+        let listing = match seen.listing() {
+            Ok(listing) => listing,
+            Err(reason) => {
+                let taken = Taken {
+                    tracker: self,
+                    paths: 0,
+                };
+                return Err(Stopped { reason, taken });
             }
-            taken += 1;
+        };
+        let mut table = [0u16; 49168];
+        let mut hints = Hints::over(&mut table);
+        hints.note_all(&listing.entries(), places.len());
+        let n = places.len().div_ceil(PLACE_SIZE);
+        for k in 0..n {
+            if let Err(reason) = self.add_going(book, queue, lent_path(places, k), &mut hints) {
+                let taken = Taken {
+                    tracker: self,
+                    paths: k as u32,
+                };
+                return Err(Stopped { reason, taken });
+            }
         }
-        Batch::Taken(t, taken)
+        Ok(Taken {
+            tracker: self,
+            paths: n as u32,
+        })
     }
 
     // Where the next path is written, and where the oldest lies once the window is full.
@@ -170,47 +206,48 @@ impl Tracker {
     }
 
     // Takes the oldest path past the window away, if the window is full.
-    fn let_go(self, book: &mut [u8], used: usize, queue: &[u8], hints: &mut [u16])
-        requires used_in_bounds { 24 * used ≤ length book.old }
-        requires ascends { Ascends 0 (keys (rows book.old used)) }
-        requires leaves { Leaves self queue.now }
-        ensures { Rewritten book.old book.new used (fade_all (left_keys (leaving self queue.now)) (rows book.old used)) }
+    fn let_go(self, entries: &mut EntriesMut, queue: &[u8], hints: &mut Hints)
+        requires { Leaves self queue.now }
+        ensures same_reference { entries.new.bytes.ghost_name ≡ entries.old.bytes.ghost_name }
+        ensures len { length entries.new.bytes.now ≡ length entries.old.bytes.now }
+        ensures rewritten { Rewritten entries.old.bytes.now entries.new.bytes.now entries.new.used (fade_all (left_keys (leaving self queue.now)) (rows entries.old.bytes.now entries.old.used)) }
+        ensures used { entries.new.used ≡ entries.old.used }
     {
-        if self.window == 0 {
+        if self.window == 0 || self.accepted < self.window {
             return;
         }
-        if self.accepted < self.window {
-            return;
-        }
-        let at = self.next_place();
+        let path = Path {
+            steps: steps_in(queue, self.next_place()),
+        };
         let row = row_of(self.window, self.accepted as usize + 1);
-        take_away(book, used, oldest(queue, at), hints, row);
+        take_away(entries, &path, hints, row);
     }
 
     // Writes the path into its place, if there is a window.
-    fn keep(self, queue: &mut [u8], path: &[u8])
-        requires window_in_bounds { 516 * self.window ≤ length queue.old }
-        requires path_len_bound { length path.now ≤ 512 }
-        ensures { queue.new ≡ queue_with self queue.old path.now }
+    #[tactic(auto, unfolding(crate::specs::Calls::queue_with))]
+    fn keep(self, queue: &mut [u8], path: &Path)
+        requires { 516 * self.window ≤ length queue.old }
+        ensures { queue.new ≡ queue_with self queue.old path.now.steps.now }
     {
-        if self.window == 0 {
-            return;
+        if self.window != 0 {
+            put_path(queue, self.next_place(), path);
         }
-        let at = self.next_place();
-        put_path(queue, at, path);
     }
 
     // Drops every child that counts nothing and every node whose ending and children all count nothing, and zeroes the book behind the
     // kept entries: 9 for the form.
-    pub fn tidy(mut self, book: &mut [u8], queue: &[u8]) -> Changed
-        ensures { changed_answer result book.new queue.now ≡ tidy_answer self book.old queue.now }
+    #[tactic(auto, using(crate::proofs::CallLaws::form_used), unfolding(crate::specs::Tidy::tidy_number, crate::specs::Tidy::tidy_state, crate::specs::Tidy::state_tidied, crate::specs::Tidy::tidy_book))]
+    pub fn tidy(mut self, book: &mut [u8], queue: &[u8]) -> Result<Tracker, Reason>
+        ensures { changed_answer self result book.new queue.now ≡ tidy_answer self book.old queue.now }
     {
-        if !in_form(self, book, queue) {
-            return Changed::Refused(Refusal::Plain(Reason::Form), self);
-        }
-        let used = drop_zeros(book, self.used as usize);
-        self.used = used as u32;
-        Changed::Done(self)
+        let seen = Seen {
+            tracker: self,
+            book,
+            queue,
+        };
+        seen.listing()?;
+        self.used = drop_zeros(book, self.used as usize) as u32;
+        Ok(self)
     }
 
     // The number of paths in the window part.
@@ -220,9 +257,6 @@ impl Tracker {
         if self.window == 0 {
             return self.accepted;
         }
-        if self.accepted < self.window {
-            return self.accepted;
-        }
-        self.window
+        self.window.min(self.accepted)
     }
 }

@@ -1,8 +1,7 @@
 -- goko's methods on f64 counts give what the readings' definitions have, as long as no total passes 2 ^ 53: sums of whole floats are those of the numbers (`Exact`), a
 -- count is above 0 as a float where it is as a number, and ln gamma and digamma are asked for at whole numbers from 1 on. Assumes nothing.
 use Rattle.std.proofs.Common.{◌≡◌, ℕ, zero, suc, ◌+◌, ◌*◌, ◌^◌, ◌<◌, ◌≤◌, min, Bool, true, false, cond, ◌||◌, eqb, ltb, List, [], ◌∷◌, map, length, pos, sym, refl, ap, ◌∙◌, ap₂, true≢false, add_comm, zero-add, zero-mul, arith, ltb-true}
-use mathlib.Core.Option
-use mathlib.Core.Option.{Option, none, some}
+use Rattle.std.specs.Prelude.{is_none, Option, None, Some, option_map}
 use lib.Ieee.{Float, nan, inf, fin, down, of_bits, of_int, lt}
 use lib.Ieee.Fits.{down_pos}
 use lib.Ieee.Exact.{HasValue}
@@ -14,7 +13,7 @@ use Rattle.priors.proofs.PriorLaws.{Positive}
 use Rattle.divergence.specs.declared.sums.Sums.{Sums}
 use Rattle.divergence.specs.Numbers.{fadd, fdiv, flt, zero64}
 use Rattle.divergence.specs.Probability.{figure, figures_of, with_evidence, posterior}
-use Rattle.divergence.specs.Divergence.{no_sums, term, ending_term, prior_count, child_terms, no_less, closed, divergence, is_none, lacks_child}
+use Rattle.divergence.specs.Divergence.{no_sums, term, ending_term, prior_count, child_terms, no_less, closed, divergence, lacks_child}
 use Rattle.book.specs.Figures.{in_window}
 use Rattle.divergence.specs.declared.statistics.KLDivergenceStats.{KLDivergenceStats}
 use Rattle.divergence.specs.Statistics.{Place, no_stats, counted, noted, stats_over}
@@ -65,7 +64,7 @@ total_whole c h =
 -- ---- evidence added to a prior
 
 abbrev grown : ℕ → ℕ → List Row → List Row
-grown k c rs = change (some c) (λ x. x + c) k rs
+grown k c rs = change (Some c) (λ x. x + c) k rs
 
 grown_sum : (k c : ℕ) (rs : List Row) → count_sum (grown k c rs) ≡ c + count_sum rs
 unfolding change count_sum
@@ -99,11 +98,11 @@ children_whole (e ∷ es) prior h =
     ap (add_children (float_rows es)) (pop_whole e.key e.count prior (omega arith))
     ∙ children_whole es (grown e.key e.count prior) (omega (arith, grown_sum e.key e.count prior))
 
-pub posterior_total : (p e : Counts) → total (posterior p (some e)) ≡ total p + total e
+pub posterior_total : (p e : Counts) → total (posterior p (Some e)) ≡ total p + total e
 unfolding posterior total
 posterior_total p e = omega (arith, children_sum e.children p.children)
 
-pub evidence_whole : (p e : Counts) → total p + total e ≤ 2 ^ 53 → add_evidence (float_counts p) (float_counts e) ≡ float_counts (posterior p (some e))
+pub evidence_whole : (p e : Counts) → total p + total e ≤ 2 ^ 53 → add_evidence (float_counts p) (float_counts e) ≡ float_counts (posterior p (Some e))
 unfolding add_evidence posterior total
 evidence_whole p e h = λ i. record {
   singleton = add_whole p.ending e.ending (omega arith) (omega arith) i;
@@ -121,7 +120,7 @@ divided_rows : (t : ℕ) (rs : List Row)
 divided_rows t [] = refl
 divided_rows t (r ∷ rs) = ap (◌∷◌ (float_row r.key (figure r.count t))) (divided_rows t rs)
 
-pub vector_whole : (c : Counts) → total c ≤ 2 ^ 53 → float_vector (float_counts c) ≡ cond (ltb 0 (total c)) (some (vector_of c)) none
+pub vector_whole : (c : Counts) → total c ≤ 2 ^ 53 → float_vector (float_counts c) ≡ cond (ltb 0 (total c)) (Some (vector_of c)) None
 unfolding float_vector divided
 vector_whole c h = rw (total_whole c h, above_zero (total c) h, divided_rows (total c) c.children)
 
@@ -141,18 +140,18 @@ vector_figures_lem c = go c.children
 
 -- ---- divergences
 
-float_found : (k : ℕ) (rs : List Row) → float_of k (float_rows rs) ≡ Option.map flt (count_of k rs)
+float_found : (k : ℕ) (rs : List Row) → float_of k (float_rows rs) ≡ option_map flt (count_of k rs)
 unfolding float_of count_of
 float_found k [] = refl
 float_found k (r ∷ rs) = go (eqb r.key k) (float_found k rs)
   where
-    go : (b : Bool) → float_of k (float_rows rs) ≡ Option.map flt (count_of k rs) → cond b (some (flt r.count)) (float_of k (float_rows rs)) ≡ Option.map flt (cond b (some r.count) (count_of k rs))
+    go : (b : Bool) → float_of k (float_rows rs) ≡ option_map flt (count_of k rs) → cond b (Some (flt r.count)) (float_of k (float_rows rs)) ≡ option_map flt (cond b (Some r.count) (count_of k rs))
     go true h = refl
     go false h = h
 
-is_found : (o : Option ℕ) → is_none o ≡ false → o ≡ some (prior_count o)
-is_found none h = let z : ◌≡◌ {A = ℕ} 0 1 = cc in absurd (omega arith)
-is_found (some c) h = refl
+is_found : (o : Option ℕ) → is_none o ≡ false → o ≡ Some (prior_count o)
+is_found None h = let z : ◌≡◌ {A = ℕ} 0 1 = cc in absurd (omega arith)
+is_found (Some c) h = refl
 
 -- a total is its ending and its children
 total_parts : (c : Counts) → total c ≡ c.ending + count_sum c.children
@@ -179,7 +178,7 @@ module _ (lnGamma digamma : Float → Float) (G D : List Float) (g : Tabled lnGa
 
   module _ (p : Counts) (positive : Positive p) (l : total p < length G) where
     terms_whole : (s : Sums) (es : List Row) → lacks_child p.children es ≡ false → count_sum es + count_sum p.children < length G
-        → float_terms lnGamma digamma (flt (total p)) (float_rows p.children) s (float_rows es) ≡ some (child_terms G D (total p) p.children s es)
+        → float_terms lnGamma digamma (flt (total p)) (float_rows p.children) s (float_rows es) ≡ Some (child_terms G D (total p) p.children s es)
     unfolding float_terms child_terms lacks_child count_sum
     terms_whole s [] h k = refl
     terms_whole s (e ∷ es) h k =
@@ -191,7 +190,7 @@ module _ (lnGamma digamma : Float → Float) (G D : List Float) (g : Tabled lnGa
         (terms_whole (term G D (total p) s a e.count) es has.1 (omega arith)))
 
     pub kl_whole : (e : Counts) → lacks_child p.children e.children ≡ false → total p + total e < length G
-        → goko_kl lnGamma digamma (float_counts p) (float_counts e) ≡ some (divergence G D p e)
+        → goko_kl lnGamma digamma (float_counts p) (float_counts e) ≡ Some (divergence G D p e)
     unfolding goko_kl divergence
     kl_whole e h k =
         let t = positive.total_positive in
@@ -207,22 +206,22 @@ module _ (lnGamma digamma : Float → Float) (G D : List Float) (g : Tabled lnGa
 
 -- where the prior lacks a child there is no figure, whatever the sums are by then
 module _ (lnGamma digamma : Float → Float) where
-  terms_none : (T : Float) (prior : List Row) (s : Sums) (es : List Row) → lacks_child prior es ≡ true → float_terms lnGamma digamma T (float_rows prior) s (float_rows es) ≡ none
+  terms_none : (T : Float) (prior : List Row) (s : Sums) (es : List Row) → lacks_child prior es ≡ true → float_terms lnGamma digamma T (float_rows prior) s (float_rows es) ≡ None
   unfolding float_terms lacks_child
   terms_none T prior s [] h = let z : ◌≡◌ {A = ℕ} 0 1 = cc in absurd (omega arith)
   terms_none T prior s (e ∷ es) h = rw (float_found e.key prior) (go (count_of e.key prior) h (λ t i. terms_none T prior t es i))
     where
       go : (o : Option ℕ) → is_none o || lacks_child prior es ≡ true
-          → ((t : Sums) → lacks_child prior es ≡ true → float_terms lnGamma digamma T (float_rows prior) t (float_rows es) ≡ none)
-          → where_found (Option.map flt o) (λ a. float_terms lnGamma digamma T (float_rows prior) (float_term lnGamma digamma T s a (flt e.count)) (float_rows es)) ≡ none
-      go none h on = refl
-      go (some a) h on = on (float_term lnGamma digamma T s (flt a) (flt e.count)) h
+          → ((t : Sums) → lacks_child prior es ≡ true → float_terms lnGamma digamma T (float_rows prior) t (float_rows es) ≡ None)
+          → where_found (option_map flt o) (λ a. float_terms lnGamma digamma T (float_rows prior) (float_term lnGamma digamma T s a (flt e.count)) (float_rows es)) ≡ None
+      go None h on = refl
+      go (Some a) h on = on (float_term lnGamma digamma T s (flt a) (flt e.count)) h
 
-  pub kl_none : (p e : Counts) → lacks_child p.children e.children ≡ true → goko_kl lnGamma digamma (float_counts p) (float_counts e) ≡ none
+  pub kl_none : (p e : Counts) → lacks_child p.children e.children ≡ true → goko_kl lnGamma digamma (float_counts p) (float_counts e) ≡ None
   unfolding goko_kl
   kl_none p e h =
       let T = float_total (float_counts p) in
-      ap (Option.map (float_closed lnGamma digamma T (fadd (float_total (float_counts e)) T)))
+      ap (option_map (float_closed lnGamma digamma T (fadd (float_total (float_counts e)) T)))
       (terms_none T p.children (float_ending lnGamma digamma T (flt p.ending) (flt e.ending)) e.children h)
 
 -- ---- statistics

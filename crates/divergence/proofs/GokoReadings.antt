@@ -1,7 +1,7 @@
 -- A reading that is not refused tells what goko's methods give: its priors have passed 3 to 7 and its tracker the form, so that no total passes 2 ^ 53 and no index is
 -- 0 or past the tables' end. Assumes nothing.
 use Rattle.std.proofs.Common.{◌≡◌, ℕ, zero, suc, ◌+◌, ◌*◌, ◌^◌, ◌<◌, ◌≤◌, Bool, true, false, cond, eqb, ltb, leb, ◌⊎◌, List, [], ◌∷◌, length, sym, refl, ap, ◌∙◌, inl, inr, arith, lt-ltb, leb-false}
-use mathlib.Core.Option.{Option, none, some, map}
+use Rattle.std.specs.Prelude.{Option, None, Some, option_map}
 use lib.ListN.{length-map}
 use lib.Ieee.{Float}
 use Rattle.priors.specs.declared.records.Record.{Record}
@@ -21,8 +21,9 @@ use Rattle.book.proofs.PathLaws.{all_bytes}
 use Rattle.entries.proofs.EntryLaws.{length_rows}
 use Rattle.book.proofs.FormLaws.{formed_counts}
 use Rattle.book.proofs.CallLaws.{form_formed}
-use Rattle.divergence.specs.declared.divergences.NodeDivergence.{NodeDivergence}
-use Rattle.divergence.specs.declared.divergences.NodeDivergence.TheVariants.{Value, NoPrior, MissingChild, PastTable}
+use Rattle.std.specs.Prelude.{Result, Ok, Err}
+use Rattle.priors.specs.declared.refusals.NodeReason.{NodeReason}
+use Rattle.priors.specs.declared.refusals.NodeReason.TheVariants.{MissingChild, PastTable}
 use Rattle.divergence.specs.Nodes.{Node, child_row, spread, listed_nodes, evidence_of}
 use Rattle.divergence.specs.Probability.{prob_vector, evidence_prob_vector, with_total, posterior}
 use Rattle.divergence.specs.Divergence.{divergence, lacks_child, node_divergence}
@@ -59,7 +60,7 @@ all_number r = mapped_number _ r
 fitted : {X : Type 0} (places have : ℕ) (r : Reading X) → reading_number (fitting places have r) ≡ 0 → (fitting places have r ≡ r) × (reading_number r ≡ 0)
 fitted places have r h = go (ltb have places) h
   where
-    go : (b : Bool) → reading_number (cond b (refused 13 none) r) ≡ 0 → (cond b (refused 13 none) r ≡ r) × (reading_number r ≡ 0)
+    go : (b : Bool) → reading_number (cond b (refused 13 None) r) ≡ 0 → (cond b (refused 13 None) r ≡ r) × (reading_number r ≡ 0)
     go true h = absurd (omega arith)
     go false h = (refl, h)
 
@@ -101,56 +102,56 @@ form_light t book queue h =
     let few : length rs ≤ 16384 = omega (arith, form_few t book queue h, length_rows book t.used) in
     all_within (count_sum rs) most (spread rs).1 (omega (arith, counts_sum rs (formed_counts rs (form_formed t book queue h)))) (spread_within rs).1
 
-found_light : (rank : ℕ) (ns : List Node) → Light ns → (e : Counts) → evidence_of rank ns ≡ some e → total e ≤ most
+found_light : (rank : ℕ) (ns : List Node) → Light ns → (e : Counts) → evidence_of rank ns ≡ Some e → total e ≤ most
 unfolding evidence_of
 found_light rank [] light e h = let z : ◌≡◌ {A = ℕ} 0 1 = cc in absurd (omega arith)
 found_light rank (n ∷ ns) light e h = go (eqb n.address rank) h (found_light rank ns light.1 e)
   where
-    go : (b : Bool) → cond b (some n.evidence) (evidence_of rank ns) ≡ some e → (evidence_of rank ns ≡ some e → total e ≤ most) → total e ≤ most
+    go : (b : Bool) → cond b (Some n.evidence) (evidence_of rank ns) ≡ Some e → (evidence_of rank ns ≡ Some e → total e ≤ most) → total e ≤ most
     go true h on = let is : n.evidence ≡ e = cc in rw (← is) light.0
     go false h on = on h
 
 -- ---- what a prior is: its total is positive and fits, and no child's count is 0
 
 record Sound (o : Option Counts) : Type 0 where
-  positive : (p : Counts) → o ≡ some p → Positive p
-  fits : (p : Counts) → o ≡ some p → total p < 2 ^ 32 * 65
+  positive : (p : Counts) → o ≡ Some p → Positive p
+  fits : (p : Counts) → o ≡ Some p → total p < 2 ^ 32 * 65
 
 prior_sound : (nodes children : List ℕ) (layer : ℕ) → Bytes nodes → Bytes children → priors_refusal nodes children layer ≡ 0 → (rank : ℕ) → Sound (prior_of nodes children layer rank)
 unfolding prior_of
 prior_sound nodes children layer n c ok rank = record { positive = prior_positive nodes children layer (accepted nodes children layer ok) rank; fits = λ p h. go (find_record layer rank (records nodes)) refl p h }
   where
-    go : (o : Option Record) → find_record layer rank (records nodes) ≡ o → (p : Counts) → map (prior_of_node children) o ≡ some p → total p < 2 ^ 32 * 65
-    go none e p h = let z : ◌≡◌ {A = ℕ} 0 1 = cc in absurd (omega arith)
-    go (some r) e p h =
+    go : (o : Option Record) → find_record layer rank (records nodes) ≡ o → (p : Counts) → option_map (prior_of_node children) o ≡ Some p → total p < 2 ^ 32 * 65
+    go None e p h = let z : ◌≡◌ {A = ℕ} 0 1 = cc in absurd (omega arith)
+    go (Some r) e p h =
         let is : prior_of_node children r ≡ p = cc in
         rw (← is) (total_le children c r (found_small nodes n layer rank r e) (found_fits nodes children layer (accepted nodes children layer ok) rank r e))
 
 -- ---- probabilities
 
-vector_given_lem : (o : Output) (c : Option Counts) → reading_number (vector_reading (room_in o) c) ≡ 0 → vector_telling o (vector_reading (room_in o) c) ≡ vector_given o (map vector_of c)
-vector_given_lem o none h = refl
-vector_given_lem o (some c) h = ap (vector_telling o) (fitted (length c.children) (room_in o) (answered c) h).0 ∙ rw (vector_keys c, vector_figures_lem c, length-map) refl
+vector_given_lem : (o : Output) (c : Option Counts) → reading_number (vector_reading (room_in o) c) ≡ 0 → vector_telling o (vector_reading (room_in o) c) ≡ vector_given o (option_map vector_of c)
+vector_given_lem o None h = refl
+vector_given_lem o (Some c) h = ap (vector_telling o) (fitted (length c.children) (room_in o) (answered c) h).0 ∙ rw (vector_keys c, vector_figures_lem c, length-map) refl
 
-vector_some : (c : Counts) → 0 < total c → total c ≤ 2 ^ 53 → float_vector (float_counts c) ≡ some (vector_of c)
-vector_some c h l = vector_whole c l ∙ ap (λ (b : Bool). cond b (some (vector_of c)) none) (lt-ltb 0 (total c) h)
+vector_some : (c : Counts) → 0 < total c → total c ≤ 2 ^ 53 → float_vector (float_counts c) ≡ Some (vector_of c)
+vector_some c h l = vector_whole c l ∙ ap (λ (b : Bool). cond b (Some (vector_of c)) None) (lt-ltb 0 (total c) h)
 
-posterior_given : (o e : Option Counts) → Sound o → ((x : Counts) → e ≡ some x → total x ≤ most) → map vector_of (prob_vector o e) ≡ goko_prob_vector o e
+posterior_given : (o e : Option Counts) → Sound o → ((x : Counts) → e ≡ Some x → total x ≤ most) → option_map vector_of (prob_vector o e) ≡ goko_prob_vector o e
 unfolding prob_vector goko_prob_vector posterior
-posterior_given none e sound light = refl
-posterior_given (some p) none sound light = sym (vector_some p (sound.positive p refl).total_positive (omega (arith, sound.fits p refl)))
-posterior_given (some p) (some e) sound light =
+posterior_given None e sound light = refl
+posterior_given (Some p) None sound light = sym (vector_some p (sound.positive p refl).total_positive (omega (arith, sound.fits p refl)))
+posterior_given (Some p) (Some e) sound light =
     let l : total p + total e ≤ 2 ^ 53 = omega (arith, sound.fits p refl, light e refl) in
     let is = posterior_total p e in
     let t = (sound.positive p refl).total_positive in
-    sym (ap float_vector (evidence_whole p e l) ∙ vector_some (posterior p (some e)) (omega arith) (omega arith))
+    sym (ap float_vector (evidence_whole p e l) ∙ vector_some (posterior p (Some e)) (omega arith) (omega arith))
 
-evidence_given : (e : Option Counts) → ((x : Counts) → e ≡ some x → total x ≤ most) → map vector_of (evidence_prob_vector e) ≡ goko_evidence_vector e
+evidence_given : (e : Option Counts) → ((x : Counts) → e ≡ Some x → total x ≤ most) → option_map vector_of (evidence_prob_vector e) ≡ goko_evidence_vector e
 unfolding evidence_prob_vector with_total goko_evidence_vector
-evidence_given none light = refl
-evidence_given (some e) light = go (ltb 0 (total e)) ∙ sym (vector_whole e (omega (arith, light e refl)))
+evidence_given None light = refl
+evidence_given (Some e) light = go (ltb 0 (total e)) ∙ sym (vector_whole e (omega (arith, light e refl)))
   where
-    go : (b : Bool) → map vector_of (cond b (some e) none) ≡ cond b (some (vector_of e)) none
+    go : (b : Bool) → option_map vector_of (cond b (Some e) None) ≡ cond b (Some (vector_of e)) None
     go true = refl
     go false = refl
 
@@ -158,23 +159,23 @@ evidence_given (some e) light = go (ltb 0 (total e)) ∙ sym (vector_whole e (om
 
 -- a list of goko's and a walk that is not stopped are the same
 abbrev WalkGiven : Option Divergences → Walk → Type 0
-WalkGiven rest w = walk_number w ≡ 0 → (d : Divergences) × (rest ≡ some d) × (w ≡ walked d.places d.skipped)
+WalkGiven rest w = walk_number w ≡ 0 → (d : Divergences) × (rest ≡ Some d) × (w ≡ walked d.places d.skipped)
 
 module _ (lnGamma digamma : Float → Float) (G D : List Float) (g : Tabled lnGamma G) (d : Tabled digamma D) (ok : tables_refusal G D ≡ 0) where
   -- what a node with evidence e comes to, and goko's answer for it
-  data NodeGiven (o : Option Counts) (e : Counts) : NodeDivergence → Type 0 where
-    valued : (p : Counts) (x : Float) → o ≡ some p → goko_kl lnGamma digamma (float_counts p) (float_counts e) ≡ some x → NodeGiven o e (Value x)
-    unknown : o ≡ none → NodeGiven o e NoPrior
-    lacking : NodeGiven o e MissingChild
-    past : NodeGiven o e PastTable
+  data NodeGiven (o : Option Counts) (e : Counts) : (Result (Option Float) NodeReason) → Type 0 where
+    valued : (p : Counts) (x : Float) → o ≡ Some p → goko_kl lnGamma digamma (float_counts p) (float_counts e) ≡ Some x → NodeGiven o e (Ok (Some x))
+    unknown : o ≡ None → NodeGiven o e (Ok None)
+    lacking : NodeGiven o e (Err MissingChild)
+    past : NodeGiven o e (Err PastTable)
 
   node_given : (o : Option Counts) (e : Counts) → Sound o → total e ≤ most → NodeGiven o e (node_divergence G D o e)
   unfolding node_divergence
-  node_given none e sound light = unknown refl
-  node_given (some p) e sound light = go (lacks_child p.children e.children) refl (leb (length G) (total p + total e)) refl
+  node_given None e sound light = unknown refl
+  node_given (Some p) e sound light = go (lacks_child p.children e.children) refl (leb (length G) (total p + total e)) refl
     where
       go : (a : Bool) → lacks_child p.children e.children ≡ a → (b : Bool) → leb (length G) (total p + total e) ≡ b
-          → NodeGiven (some p) e (cond a MissingChild (cond b PastTable (Value (divergence G D p e))))
+          → NodeGiven (Some p) e (cond a (Err MissingChild) (cond b (Err PastTable) (Ok (Some (divergence G D p e)))))
       go true i b j = lacking
       go false i true j = past
       go false i false j =
@@ -182,15 +183,15 @@ module _ (lnGamma digamma : Float → Float) (G D : List Float) (g : Tabled lnGa
           valued p (divergence G D p e) refl
           (kl_whole lnGamma digamma G D g d (tables_alike G D ok) (omega (arith, tables_few G D ok)) p (sound.positive p refl) (omega arith) e i l)
 
-  kl_given : (rank : ℕ) (o : Option Counts) (e : Counts) {r : NodeDivergence} → NodeGiven o e r → reading_number (divergence_reading rank r) ≡ 0
-      → divergence_reading rank r ≡ figure_given (goko_node_kl lnGamma digamma o (some e))
+  kl_given : (rank : ℕ) (o : Option Counts) (e : Counts) {r : (Result (Option Float) NodeReason)} → NodeGiven o e r → reading_number (divergence_reading rank r) ≡ 0
+      → divergence_reading rank r ≡ figure_given (goko_node_kl lnGamma digamma o (Some e))
   unfolding goko_node_kl
   kl_given rank o e (valued p x i j) h = rw (i, j)
   kl_given rank o e (unknown i) h = rw i
   kl_given rank o e lacking h = absurd (omega arith)
   kl_given rank o e past h = absurd (omega arith)
 
-  visited_given : (node : ℕ) (o : Option Counts) (e : Counts) {r : NodeDivergence} → NodeGiven o e r → (rest : Option Divergences) (w : Walk) → WalkGiven rest w
+  visited_given : (node : ℕ) (o : Option Counts) (e : Counts) {r : (Result (Option Float) NodeReason)} → NodeGiven o e r → (rest : Option Divergences) (w : Walk) → WalkGiven rest w
       → WalkGiven (goko_visited lnGamma digamma node o e rest) (visited node r w)
   visited_given node o e (valued p x i j) rest w on h =
       let place : Place = record { address = node; value = x } in
@@ -211,15 +212,15 @@ module _ (lnGamma digamma : Float → Float) (G D : List Float) (g : Tabled lnGa
         visited_given n.address o n.evidence (node_given o n.evidence (sound n.address) light.0) (goko_all_kl lnGamma digamma (prior_of nodes children layer) ns)
         (walk G D nodes children layer ns) (walk_given ns light.1) h
 
-    listed_given : (rank : ℕ) (e : Option Counts) → ((x : Counts) → e ≡ some x → total x ≤ most) → reading_number (of_listed G D nodes children layer rank e) ≡ 0
+    listed_given : (rank : ℕ) (e : Option Counts) → ((x : Counts) → e ≡ Some x → total x ≤ most) → reading_number (of_listed G D nodes children layer rank e) ≡ 0
         → of_listed G D nodes children layer rank e ≡ figure_given (goko_node_kl lnGamma digamma (prior_of nodes children layer rank) e)
     unfolding goko_node_kl
-    listed_given rank none light h = go (prior_of nodes children layer rank)
+    listed_given rank None light h = go (prior_of nodes children layer rank)
       where
-        go : (o : Option Counts) → ◌≡◌ {A = Reading Float} nothing (figure_given (where_found o (λ p. none)))
-        go none = refl
-        go (some p) = refl
-    listed_given rank (some e) light h =
+        go : (o : Option Counts) → ◌≡◌ {A = Reading Float} nothing (figure_given (where_found o (λ p. None)))
+        go None = refl
+        go (Some p) = refl
+    listed_given rank (Some e) light h =
         let o = prior_of nodes children layer rank in
         kl_given rank o e (node_given o e (sound rank) (light e refl)) h
 
@@ -239,60 +240,60 @@ fourteen (suc n) r h e = let z : ◌≡◌ {A = ℕ} 0 1 = cc (ap names_none e) 
 fitting_fourteen : {X : Type 0} (places have : ℕ) (r : Reading X) → reading_number (fitting places have r) ≡ 14 → reading_number r ≡ 14
 fitting_fourteen places have r h = go (ltb have places) h
   where
-    go : (b : Bool) → reading_number (cond b (refused 13 none) r) ≡ 14 → reading_number r ≡ 14
+    go : (b : Bool) → reading_number (cond b (refused 13 None) r) ≡ 14 → reading_number r ≡ 14
     go true h = absurd (omega arith)
     go false h = h
 
 -- on to none is none
-never : {X Y : Type 0} (o : Option X) → where_found {Y = Y} o (λ x. none) ≡ none
-never none = refl
-never (some x) = refl
+never : {X Y : Type 0} (o : Option X) → where_found {Y = Y} o (λ x. None) ≡ None
+never None = refl
+never (Some x) = refl
 
 module _ (lnGamma digamma : Float → Float) (G D : List Float) where
   -- what a node with a prior comes to: goko has no figure, or 14 does not come from it
-  node_lacks : (p e : Counts) → (goko_kl lnGamma digamma (float_counts p) (float_counts e) ≡ none) ⊎ ((node_divergence G D (some p) e ≡ PastTable) ⊎ (node_divergence G D (some p) e ≡ Value (divergence G D p e)))
+  node_lacks : (p e : Counts) → (goko_kl lnGamma digamma (float_counts p) (float_counts e) ≡ None) ⊎ ((node_divergence G D (Some p) e ≡ (Err PastTable)) ⊎ (node_divergence G D (Some p) e ≡ Ok (Some (divergence G D p e))))
   unfolding node_divergence
   node_lacks p e = go (lacks_child p.children e.children) refl (leb (length G) (total p + total e))
     where
       go : (a : Bool) → lacks_child p.children e.children ≡ a → (b : Bool)
-          → (goko_kl lnGamma digamma (float_counts p) (float_counts e) ≡ none)
-          ⊎ ((cond a MissingChild (cond b PastTable (Value (divergence G D p e))) ≡ PastTable) ⊎ (cond a MissingChild (cond b PastTable (Value (divergence G D p e))) ≡ Value (divergence G D p e)))
+          → (goko_kl lnGamma digamma (float_counts p) (float_counts e) ≡ None)
+          ⊎ ((cond a (Err MissingChild) (cond b (Err PastTable) (Ok (Some (divergence G D p e)))) ≡ (Err PastTable)) ⊎ (cond a (Err MissingChild) (cond b (Err PastTable) (Ok (Some (divergence G D p e)))) ≡ Ok (Some (divergence G D p e))))
       go true i b = inl (kl_none lnGamma digamma p e i)
       go false i true = inr (inl refl)
       go false i false = inr (inr refl)
 
-  one_lacks : (rank : ℕ) (o : Option Counts) (e : Counts) → reading_number (divergence_reading rank (node_divergence G D o e)) ≡ 14 → goko_node_kl lnGamma digamma o (some e) ≡ none
+  one_lacks : (rank : ℕ) (o : Option Counts) (e : Counts) → reading_number (divergence_reading rank (node_divergence G D o e)) ≡ 14 → goko_node_kl lnGamma digamma o (Some e) ≡ None
   unfolding goko_node_kl
-  one_lacks rank none e h = refl
-  one_lacks rank (some p) e h = go (node_lacks p e)
+  one_lacks rank None e h = refl
+  one_lacks rank (Some p) e h = go (node_lacks p e)
     where
-      go : (goko_kl lnGamma digamma (float_counts p) (float_counts e) ≡ none) ⊎ ((node_divergence G D (some p) e ≡ PastTable) ⊎ (node_divergence G D (some p) e ≡ Value (divergence G D p e)))
-          → goko_kl lnGamma digamma (float_counts p) (float_counts e) ≡ none
+      go : (goko_kl lnGamma digamma (float_counts p) (float_counts e) ≡ None) ⊎ ((node_divergence G D (Some p) e ≡ (Err PastTable)) ⊎ (node_divergence G D (Some p) e ≡ Ok (Some (divergence G D p e))))
+          → goko_kl lnGamma digamma (float_counts p) (float_counts e) ≡ None
       go (inl i) = i
-      go (inr (inl i)) = let z : ◌≡◌ {A = ℕ} 15 14 = sym (ap (λ (r : NodeDivergence). reading_number (divergence_reading rank r)) i) ∙ h in absurd (omega arith)
-      go (inr (inr i)) = let z : ◌≡◌ {A = ℕ} 0 14 = sym (ap (λ (r : NodeDivergence). reading_number (divergence_reading rank r)) i) ∙ h in absurd (omega arith)
+      go (inr (inl i)) = let z : ◌≡◌ {A = ℕ} 15 14 = sym (ap (λ (r : (Result (Option Float) NodeReason)). reading_number (divergence_reading rank r)) i) ∙ h in absurd (omega arith)
+      go (inr (inr i)) = let z : ◌≡◌ {A = ℕ} 0 14 = sym (ap (λ (r : (Result (Option Float) NodeReason)). reading_number (divergence_reading rank r)) i) ∙ h in absurd (omega arith)
 
   module _ (nodes children : List ℕ) (layer : ℕ) where
-    listed_lacks : (rank : ℕ) (e : Option Counts) → reading_number (of_listed G D nodes children layer rank e) ≡ 14 → goko_node_kl lnGamma digamma (prior_of nodes children layer rank) e ≡ none
-    listed_lacks rank none h = absurd (omega arith)
-    listed_lacks rank (some e) h = one_lacks rank (prior_of nodes children layer rank) e h
+    listed_lacks : (rank : ℕ) (e : Option Counts) → reading_number (of_listed G D nodes children layer rank e) ≡ 14 → goko_node_kl lnGamma digamma (prior_of nodes children layer rank) e ≡ None
+    listed_lacks rank None h = absurd (omega arith)
+    listed_lacks rank (Some e) h = one_lacks rank (prior_of nodes children layer rank) e h
 
-    visited_lacks : (node : ℕ) (o : Option Counts) (e : Counts) (rest : Option Divergences) (w : Walk) → (walk_number w ≡ 14 → rest ≡ none)
-        → walk_number (visited node (node_divergence G D o e) w) ≡ 14 → goko_visited lnGamma digamma node o e rest ≡ none
+    visited_lacks : (node : ℕ) (o : Option Counts) (e : Counts) (rest : Option Divergences) (w : Walk) → (walk_number w ≡ 14 → rest ≡ None)
+        → walk_number (visited node (node_divergence G D o e) w) ≡ 14 → goko_visited lnGamma digamma node o e rest ≡ None
     unfolding node_divergence
-    visited_lacks node none e rest w on h = rw (on (sym (skipping_number w) ∙ h))
-    visited_lacks node (some p) e rest w on h = go (node_lacks p e)
+    visited_lacks node None e rest w on h = rw (on (sym (skipping_number w) ∙ h))
+    visited_lacks node (Some p) e rest w on h = go (node_lacks p e)
       where
-        number : (r : NodeDivergence) → node_divergence G D (some p) e ≡ r → walk_number (visited node r w) ≡ 14
-        number r i = sym (ap (λ (x : NodeDivergence). walk_number (visited node x w)) i) ∙ h
+        number : (r : (Result (Option Float) NodeReason)) → node_divergence G D (Some p) e ≡ r → walk_number (visited node r w) ≡ 14
+        number r i = sym (ap (λ (x : (Result (Option Float) NodeReason)). walk_number (visited node x w)) i) ∙ h
 
-        go : (goko_kl lnGamma digamma (float_counts p) (float_counts e) ≡ none) ⊎ ((node_divergence G D (some p) e ≡ PastTable) ⊎ (node_divergence G D (some p) e ≡ Value (divergence G D p e)))
-            → goko_visited lnGamma digamma node (some p) e rest ≡ none
+        go : (goko_kl lnGamma digamma (float_counts p) (float_counts e) ≡ None) ⊎ ((node_divergence G D (Some p) e ≡ (Err PastTable)) ⊎ (node_divergence G D (Some p) e ≡ Ok (Some (divergence G D p e))))
+            → goko_visited lnGamma digamma node (Some p) e rest ≡ None
         go (inl i) = rw i
-        go (inr (inl i)) = let z : ◌≡◌ {A = ℕ} 15 14 = number PastTable i in absurd (omega arith)
-        go (inr (inr i)) = rw (on (sym (placed_number (record { address = node; value = divergence G D p e }) w) ∙ number (Value (divergence G D p e)) i)) (never (goko_kl lnGamma digamma (float_counts p) (float_counts e)))
+        go (inr (inl i)) = let z : ◌≡◌ {A = ℕ} 15 14 = number (Err PastTable) i in absurd (omega arith)
+        go (inr (inr i)) = rw (on (sym (placed_number (record { address = node; value = divergence G D p e }) w) ∙ number (Ok (Some (divergence G D p e))) i)) (never (goko_kl lnGamma digamma (float_counts p) (float_counts e)))
 
-    walk_lacks : (ns : List Node) → walk_number (walk G D nodes children layer ns) ≡ 14 → goko_all_kl lnGamma digamma (prior_of nodes children layer) ns ≡ none
+    walk_lacks : (ns : List Node) → walk_number (walk G D nodes children layer ns) ≡ 14 → goko_all_kl lnGamma digamma (prior_of nodes children layer) ns ≡ None
     unfolding walk goko_all_kl
     walk_lacks [] h = absurd (omega arith)
     walk_lacks (n ∷ ns) h =
@@ -319,7 +320,7 @@ module _ (t : Tracker) (book queue : List ℕ) (priors : LentPriors) (nb : All (
   light : form ≡ 0 → Light listed
   light ok = form_light t book queue (form_true (in_form t book queue) ok)
 
-  found : form ≡ 0 → (rank : ℕ) (x : Counts) → evidence_of rank listed ≡ some x → total x ≤ most
+  found : form ≡ 0 → (rank : ℕ) (x : Counts) → evidence_of rank listed ≡ Some x → total x ≤ most
   found ok rank x h = found_light rank listed (light ok) x h
 
   module _ (rank : ℕ) (o : Output) where
@@ -371,7 +372,7 @@ module _ (t : Tracker) (book queue : List ℕ) (priors : LentPriors) (nb : All (
     walk_told r a = walk_given lnGamma digamma G D g d a.tables_pass priors.nodes priors.children (layer_of priors.floor) (sound a.priors_pass) listed (light a.form_pass)
 
     all_told : (o : Output) → reading_number (all_reading form G D priors.nodes priors.children (layer_of priors.floor) listed (room_in o)) ≡ 0
-        → (x : Divergences) × (list ≡ some x) × (all_telling o (all_reading form G D priors.nodes priors.children (layer_of priors.floor) listed (room_in o)) ≡ all_telling o (answered x))
+        → (x : Divergences) × (list ≡ Some x) × (all_telling o (all_reading form G D priors.nodes priors.children (layer_of priors.floor) listed (room_in o)) ≡ all_telling o (answered x))
     unfolding all_reading
     all_told o h =
         let w = walk G D priors.nodes priors.children (layer_of priors.floor) listed in
@@ -382,7 +383,7 @@ module _ (t : Tracker) (book queue : List ℕ) (priors : LentPriors) (nb : All (
         (x.0, x.1, ap (all_telling o) (a.is ∙ f.0 ∙ ap walk_reading x.2))
 
     stats_told : reading_number (stats_reading form G D priors.nodes priors.children (layer_of priors.floor) listed (sequence_len t)) ≡ 0
-        → (x : Divergences) × (list ≡ some x) × (stats_reading form G D priors.nodes priors.children (layer_of priors.floor) listed (sequence_len t) ≡ stats_given t x)
+        → (x : Divergences) × (list ≡ Some x) × (stats_reading form G D priors.nodes priors.children (layer_of priors.floor) listed (sequence_len t) ≡ stats_given t x)
     unfolding stats_reading
     stats_told h =
         let w = walk G D priors.nodes priors.children (layer_of priors.floor) listed in
@@ -399,20 +400,20 @@ module _ (t : Tracker) (book queue : List ℕ) (priors : LentPriors) (nb : All (
         (ap reading_number (sym (checks_are t book queue priors.nodes priors.children (layer_of priors.floor) G D r)) ∙ h)
 
     kl_fourteen : (rank : ℕ) → reading_number (kl_reading form G D priors.nodes priors.children (layer_of priors.floor) listed rank) ≡ 14
-        → goko_node_kl lnGamma digamma (prior rank) (evidence_of rank listed) ≡ none
+        → goko_node_kl lnGamma digamma (prior rank) (evidence_of rank listed) ≡ None
     unfolding kl_reading
     kl_fourteen rank h = listed_lacks lnGamma digamma G D priors.nodes priors.children (layer_of priors.floor) rank (evidence_of rank listed) (checked_fourteen _ h)
 
-    walk_fourteen : walk_number (walk G D priors.nodes priors.children (layer_of priors.floor) listed) ≡ 14 → list ≡ none
+    walk_fourteen : walk_number (walk G D priors.nodes priors.children (layer_of priors.floor) listed) ≡ 14 → list ≡ None
     walk_fourteen h = walk_lacks lnGamma digamma G D priors.nodes priors.children (layer_of priors.floor) listed h
 
-    all_fourteen : (have : ℕ) → reading_number (all_reading form G D priors.nodes priors.children (layer_of priors.floor) listed have) ≡ 14 → list ≡ none
+    all_fourteen : (have : ℕ) → reading_number (all_reading form G D priors.nodes priors.children (layer_of priors.floor) listed have) ≡ 14 → list ≡ None
     unfolding all_reading
     all_fourteen have h =
         let w = walk G D priors.nodes priors.children (layer_of priors.floor) listed in
         walk_fourteen (sym (walk_number_lem w) ∙ fitting_fourteen (with_prior priors.nodes priors.children (layer_of priors.floor) listed) have (walk_reading w) (checked_fourteen _ h))
 
-    stats_fourteen : (len : ℕ) → reading_number (stats_reading form G D priors.nodes priors.children (layer_of priors.floor) listed len) ≡ 14 → list ≡ none
+    stats_fourteen : (len : ℕ) → reading_number (stats_reading form G D priors.nodes priors.children (layer_of priors.floor) listed len) ≡ 14 → list ≡ None
     unfolding stats_reading
     stats_fourteen len h =
         let w = walk G D priors.nodes priors.children (layer_of priors.floor) listed in

@@ -1,7 +1,7 @@
 -- Index 0 of the tables is never read: the tests of the tables begin at index 1, and where the priors pass theirs every index asked for, T, U, a and e + a, is
 -- positive. So two pairs of tables that differ there alone give the same sums, divergences, walks and readings. Assumes nothing.
 use Rattle.std.proofs.Common.{◌≡◌, ℕ, zero, suc, ◌+◌, ◌-◌, ◌<◌, Bool, true, false, cond, ◌||◌, ltb, List, [], ◌∷◌, length, refl, ap, ap₂, arith, ltb-true}
-use mathlib.Core.Option.{Option, none, some}
+use Rattle.std.specs.Prelude.{is_none, Option, None, Some}
 use lib.Ieee.{Float}
 use Rattle.priors.specs.Below.{all_below}
 use Rattle.priors.specs.Rows.{Row, count_of}
@@ -10,7 +10,7 @@ use Rattle.priors.specs.Priors.{layer_of, Counts, total, prior_of, priors_refusa
 use Rattle.priors.proofs.PriorLaws.{accepted, Positive, prior_positive}
 use Rattle.divergence.specs.declared.sums.Sums.{Sums}
 use Rattle.divergence.specs.Nodes.{Node, evidence_of}
-use Rattle.divergence.specs.Divergence.{no_sums, term, ending_term, prior_count, child_terms, closed, divergence, is_none, lacks_child, node_divergence}
+use Rattle.divergence.specs.Divergence.{no_sums, term, ending_term, prior_count, child_terms, closed, divergence, lacks_child, node_divergence}
 use Rattle.divergence.specs.Statistics.{Walk, visited, walk}
 use Rattle.divergence.specs.Readings.{Reading, unless, fitting, divergence_reading, of_listed, kl_reading, with_prior, walk_reading, all_reading, stats_reading_of, stats_reading}
 use Rattle.divergence.specs.Asked.{room_in}
@@ -43,8 +43,8 @@ pub child_positive : (p : Counts) → Positive p → (k : ℕ) → is_none (coun
 child_positive p positive k h = go (count_of k p.children) refl h
   where
     go : (o : Option ℕ) → count_of k p.children ≡ o → is_none o ≡ false → 0 < prior_count o
-    go none e h = let z : ◌≡◌ {A = ℕ} 0 1 = cc in absurd (omega arith)
-    go (some c) e h = positive.count_positive k c e
+    go None e h = let z : ◌≡◌ {A = ℕ} 0 1 = cc in absurd (omega arith)
+    go (Some c) e h = positive.count_positive k c e
 
 pub neither : (a b : Bool) → a || b ≡ false → (a ≡ false) × (b ≡ false)
 neither true b h = let z : ◌≡◌ {A = ℕ} 0 1 = cc in absurd (omega arith)
@@ -90,10 +90,10 @@ module _ (g g' d d' : Float) (G D : List Float) where
 
   -- ---- a node, a walk over nodes, a reading
 
-  same_node : (o : Option Counts) → ((p : Counts) → o ≡ some p → Positive p) → (e : Counts) → node_divergence (g ∷ G) (d ∷ D) o e ≡ node_divergence (g' ∷ G) (d' ∷ D) o e
+  same_node : (o : Option Counts) → ((p : Counts) → o ≡ Some p → Positive p) → (e : Counts) → node_divergence (g ∷ G) (d ∷ D) o e ≡ node_divergence (g' ∷ G) (d' ∷ D) o e
   unfolding node_divergence
-  same_node none positive e = refl
-  same_node (some p) positive e = same_cond (lacks_child p.children e.children) (λ h. refl) (λ h. rw (same_divergence p (positive p refl) e h))
+  same_node None positive e = refl
+  same_node (Some p) positive e = same_cond (lacks_child p.children e.children) (λ h. refl) (λ h. rw (same_divergence p (positive p refl) e h))
 
   module _ (nodes children : List ℕ) (layer : ℕ) where
     same_checked : {X : Type 0} (form : ℕ) {r s : Reading X} → (priors_refusal nodes children layer ≡ 0 → r ≡ s)
@@ -106,8 +106,8 @@ module _ (g g' d d' : Float) (G D : List Float) where
       same_ranked rank e = same_node (prior_of nodes children layer rank) (prior_positive nodes children layer (accepted nodes children layer ok) rank) e
 
       same_listed : (rank : ℕ) (o : Option Counts) → of_listed (g ∷ G) (d ∷ D) nodes children layer rank o ≡ of_listed (g' ∷ G) (d' ∷ D) nodes children layer rank o
-      same_listed rank none = refl
-      same_listed rank (some e) = ap (divergence_reading rank) (same_ranked rank e)
+      same_listed rank None = refl
+      same_listed rank (Some e) = ap (divergence_reading rank) (same_ranked rank e)
 
       same_walk : (ns : List Node) → walk (g ∷ G) (d ∷ D) nodes children layer ns ≡ walk (g' ∷ G) (d' ∷ D) nodes children layer ns
       unfolding walk

@@ -1,7 +1,8 @@
 -- The evidence of one listed node: where entries have the form, its ending is found by its key, its children stand after it up to the next ending, and they ascend.
 -- Assumes nothing.
 use Rattle.std.proofs.Common.{◌≡◌, ℕ, zero, suc, ◌+◌, ◌-◌, ◌*◌, ◌^◌, ◌<◌, ◌≤◌, Bool, true, false, cond, ◌&&◌, ◌||◌, eqb, ltb, leb, List, [], ◌∷◌, map, length, get_or, drop, sym, refl, ap, ◌∙◌, ap₂, arith, drop-drop, ltb-true, eq-eqb, ne_eqb, eqb-true, leb-true}
-use mathlib.Core.Option.{none, some}
+use Rattle.std.specs.Prelude.{None, Some, Result, Ok, Err}
+use Rattle.std.specs.Result.{result_ok}
 use Rattle.priors.specs.Rows.{Row, keys, Ascends}
 use Rattle.priors.specs.Search.{blank, place, holds}
 use Rattle.priors.specs.Priors.{Counts}
@@ -9,7 +10,6 @@ use Rattle.priors.proofs.Orders.{Alike, alike, unlike, compared}
 use Rattle.priors.proofs.ByPlace.{Spot, end, before, here, later, spot, spot_lt}
 use Rattle.priors.proofs.Tests.{both}
 use Rattle.priors.proofs.RowLaws.{ascends_from}
-use Rattle.entries.specs.declared.entries.Found.TheVariants.{At, Missing}
 use Rattle.entries.specs.Keys.{no_child, end_key, node_of, kind_of, child_of}
 use Rattle.entries.specs.Entries.{row_at, rows, find_in}
 use Rattle.book.specs.Figures.{All}
@@ -75,7 +75,7 @@ module _ (a : ℕ) where
       go (alike z e) = rw (nodes_ending r rs e, other_node r p z differs)
       go (unlike z e) = rw (nodes_child r rs e)
 
-  absent : (rs : List Row) → Plain rs → Ascends (suc (end_key a)) (keys rs) → evidence_of a (listed_nodes rs) ≡ none
+  absent : (rs : List Row) → Plain rs → Ascends (suc (end_key a)) (keys rs) → evidence_of a (listed_nodes rs) ≡ None
   unfolding listed_nodes spread evidence_of
   absent [] p h = refl
   absent (r ∷ rs) p h = passed r rs p.0 (λ e. omega arith) ∙ absent rs p.1 (ascends_from (suc (end_key a)) (suc r.key) (keys rs) (omega arith) h.1)
@@ -83,7 +83,7 @@ module _ (a : ℕ) where
   abbrev evidence_here : List Row → ℕ → Counts
   evidence_here rs i = record { ending = (get_or rs i blank).count; children = (spread (drop (suc i) rs)).0 }
 
-  listed : {rs : List Row} {i : ℕ} {b : Bool} → Plain rs → Ascends 0 (keys rs) → Spot (end_key a) rs i b → evidence_of a (listed_nodes rs) ≡ cond b (some (evidence_here rs i)) none
+  listed : {rs : List Row} {i : ℕ} {b : Bool} → Plain rs → Ascends 0 (keys rs) → Spot (end_key a) rs i b → evidence_of a (listed_nodes rs) ≡ cond b (Some (evidence_here rs i)) None
   unfolding listed_nodes spread evidence_of
   listed p h end = refl
   listed p h (before {r} {rs} l) = absent (r ∷ rs) p (l, h.1)
@@ -91,23 +91,23 @@ module _ (a : ℕ) where
   listed p h (later {r} {rs} l s) = passed r rs p.0 (λ e. omega arith) ∙ listed p.1 (ascends_from 0 (suc r.key) (keys rs) (omega arith) h.1) s
 
   module _ (rs : List Row) (form : formed rs ≡ true) where
-    pub found_missing : (i : ℕ) → Missing i ≡ find_in rs (end_key a) → evidence_of a (listed_nodes rs) ≡ none
+    pub found_missing : (i : ℕ) → Err i ≡ find_in rs (end_key a) → evidence_of a (listed_nodes rs) ≡ None
     unfolding find_in
     found_missing i e = go (holds rs (place rs (end_key a)) (end_key a)) (spot (end_key a) rs) e
       where
-        go : (b : Bool) → Spot (end_key a) rs (place rs (end_key a)) b → Missing i ≡ cond b (At (place rs (end_key a))) (Missing (place rs (end_key a))) → evidence_of a (listed_nodes rs) ≡ none
+        go : (b : Bool) → Spot (end_key a) rs (place rs (end_key a)) b → Err i ≡ cond b (Ok (place rs (end_key a))) (Err (place rs (end_key a))) → evidence_of a (listed_nodes rs) ≡ None
         go true s e = let z : ◌≡◌ {A = ℕ} 0 1 = cc in absurd (omega arith)
         go false s e = listed (formed_plain rs form) (formed_ascends rs form) s
 
-    pub found_listed : (i : ℕ) → At i ≡ find_in rs (end_key a) → (i < length rs) × (evidence_of a (listed_nodes rs) ≡ some (evidence_here rs i))
+    pub found_listed : (i : ℕ) → Ok i ≡ find_in rs (end_key a) → (i < length rs) × (evidence_of a (listed_nodes rs) ≡ Some (evidence_here rs i))
     unfolding find_in
     found_listed i e = go (holds rs (place rs (end_key a)) (end_key a)) (spot (end_key a) rs) e
       where
-        go : (b : Bool) → Spot (end_key a) rs (place rs (end_key a)) b → At i ≡ cond b (At (place rs (end_key a))) (Missing (place rs (end_key a)))
-            → (i < length rs) × (evidence_of a (listed_nodes rs) ≡ some (evidence_here rs i))
+        go : (b : Bool) → Spot (end_key a) rs (place rs (end_key a)) b → Ok i ≡ cond b (Ok (place rs (end_key a))) (Err (place rs (end_key a)))
+            → (i < length rs) × (evidence_of a (listed_nodes rs) ≡ Some (evidence_here rs i))
         go true s e =
             let is : place rs (end_key a) ≡ i = cc in
-            (rw is at (spot_lt s), listed (formed_plain rs form) (formed_ascends rs form) s ∙ ap (λ (j : ℕ). some (evidence_here rs j)) is)
+            (rw is at (spot_lt s), listed (formed_plain rs form) (formed_ascends rs form) s ∙ ap (λ (j : ℕ). Some (evidence_here rs j)) is)
         go false s e = let z : ◌≡◌ {A = ℕ} 0 1 = cc in absurd (omega arith)
 
 -- ---- a node's children
@@ -161,15 +161,12 @@ rows_drop s (suc n) (suc i) h =
     let left : n - i ≡ suc n - suc i = omega arith in
     rows_drop (drop 24 s) n i (omega arith) ∙ ap₂ rows (drop-drop (24 * i) 24 s ∙ ap (λ (k : ℕ). drop k s) at) left
 
-module _ (book : List ℕ) (used : ℕ) (form : formed (rows book used) ≡ true) (a i : ℕ) (is : At i ≡ find_in (rows book used) (end_key a)) where
-  in_use : i < used
-  in_use = omega (arith, length_rows book used, (found_listed a (rows book used) form i is).0)
-
+module _ (book : List ℕ) (used : ℕ) (form : formed (rows book used) ≡ true) (i : ℕ) (in_use : i < used) where
   after : drop (suc i) (rows book used) ≡ part book (i + 1) used
   after = let one : suc i ≡ i + 1 = omega arith in rw one (rows_drop book used (i + 1) (omega (arith, in_use)))
 
   -- where its children end
-  abbrev last : ℕ
+  abbrev pub last : ℕ
   last = i + 1 + leading (part book (i + 1) used)
 
   pub listed_end : (i < last) × (last ≤ used)
@@ -182,11 +179,27 @@ module _ (book : List ℕ) (used : ℕ) (form : formed (rows book used) ≡ true
       ∙ front_children (drop (24 * (i + 1)) book) (used - (i + 1))
       ∙ ap (λ (k : ℕ). map child_row (rows (drop (24 * (i + 1)) book) k)) count
 
-  pub listed_is : evidence_of a (listed_nodes (rows book used)) ≡ some (evidence_at book i last)
-  unfolding row_at
-  listed_is =
-      let ending : (get_or (rows book used) i blank).count ≡ (evidence_at book i last).ending = ap (λ (r : Row). r.count) (get_d_rows book used i blank in_use) in
-      (found_listed a (rows book used) form i is).1 ∙ (λ j. some (record { ending = ending j; children = children_are j }))
-
+  -- of an entry of a book that has the form: the children after it ascend
   pub listed_ascend : Ascends 0 (keys (map child_row (part book (i + 1) last)))
   listed_ascend = rw children_are at (ascend_after (get_or (rows book used) i blank).key 0 (drop (suc i) (rows book used)) (formed_at (rows book used) i form (omega (arith, in_use, length_rows book used))) (λ j l n z. omega arith))
+
+  -- of the ending of the address a
+  pub listed_is : (a : ℕ) → Ok i ≡ find_in (rows book used) (end_key a) → evidence_of a (listed_nodes (rows book used)) ≡ Some (evidence_at book i last)
+  unfolding row_at
+  listed_is a is =
+      let ending : (get_or (rows book used) i blank).count ≡ (evidence_at book i last).ending = ap (λ (r : Row). r.count) (get_d_rows book used i blank in_use) in
+      (found_listed a (rows book used) form i is).1 ∙ (λ j. Some (record { ending = ending j; children = children_are j }))
+
+-- an ending that is found is in use
+pub found_in_use : (book : List ℕ) (used : ℕ) → formed (rows book used) ≡ true → (a i : ℕ) → Ok i ≡ find_in (rows book used) (end_key a) → i < used
+found_in_use book used form a i is = omega (arith, length_rows book used, (found_listed a (rows book used) form i is).0)
+
+-- ---- a look-up as an option
+
+pub from_some : (r : Result ℕ ℕ) (i : ℕ) → result_ok r ≡ Some i → Ok i ≡ r
+from_some (Ok j) i h = cc
+from_some (Err j) i h = let z : ◌≡◌ {A = ℕ} 0 1 = cc in absurd (omega arith)
+
+pub from_none : (r : Result ℕ ℕ) → result_ok r ≡ None → (i : ℕ) × (Err i ≡ r)
+from_none (Ok j) h = let z : ◌≡◌ {A = ℕ} 0 1 = cc in absurd (omega arith)
+from_none (Err j) h = (j, refl)

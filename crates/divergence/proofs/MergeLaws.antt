@@ -1,21 +1,23 @@
 -- Evidence that ascends is added to a prior in one pass: whichever of the two first rows has the lower key comes first, and two with the same key come as one.
 -- Then the same for a chain and the entries of a book, place by place. Assumes nothing.
-use Rattle.std.proofs.Common.{◌≡◌, ℕ, suc, ◌+◌, ◌-◌, ◌*◌, ◌^◌, ◌<◌, ◌≤◌, List, [], ◌∷◌, map, length, drop, sym, refl, ap, ◌∙◌, arith}
-use mathlib.Core.Option.{Option, none, some}
+use Rattle.std.proofs.Common.{◌≡◌, true, ℕ, suc, ◌+◌, ◌-◌, ◌*◌, ◌<◌, ◌≤◌, List, [], ◌∷◌, map, length, drop, sym, refl, ap, ◌∙◌, arith}
+use Rattle.std.specs.Prelude.{Option, None, Some}
 use lib.ListN.{length-map}
 use Rattle.priors.specs.declared.records.Record.{Record}
 use Rattle.priors.specs.Rows.{Row, row, keys, Ascends, look, change}
-use Rattle.priors.specs.Priors.{record_at, record_count, chain_of, children_of}
+use Rattle.priors.specs.Priors.{record_at, record_count, chain_of, children_of, every_child, next_link_fits}
+use Rattle.entries.specs.Limits.{entry_size}
 use Rattle.priors.proofs.ChainLaws.{next_small, rows_end, rows_step}
 use Rattle.priors.proofs.Orders.{compare_lt, compare_gt, compare_self}
 use Rattle.priors.proofs.RowLaws.{ascends_from, gained, length_change}
 use Rattle.entries.specs.Entries.{row_at}
 use Rattle.entries.proofs.EntryLaws.{length_rows}
-use Rattle.divergence.specs.declared.probabilities.Child.{Child}
+use Rattle.divergence.specs.declared.evidence.Child.{Child}
+use Rattle.divergence.specs.declared.probabilities.Merge.{Merge}
 use Rattle.divergence.specs.Nodes.{child_row}
 use Rattle.divergence.specs.Parts.{part}
 use Rattle.divergence.specs.Probability.{with_evidence}
-use Rattle.divergence.specs.Merge.{child_entries, merged_from, Mergeable, of_record, of_entry, FirstMerged}
+use Rattle.divergence.specs.Merge.{child_entries, merged_from}
 use Rattle.divergence.proofs.NodeLaws.{part_none, part_cons}
 
 -- ---- rows
@@ -26,7 +28,7 @@ unfolding with_evidence change
 row_below [] p ps h = refl
 row_below (e ∷ es) p ps h =
     rw (compare_gt e.key p.key (omega arith))
-    (row_below es p (change (some e.count) (λ c. c + e.count) e.key ps) (ascends_from (suc p.key) (suc e.key) (keys es) (omega arith) h.1))
+    (row_below es p (change (Some e.count) (λ c. c + e.count) e.key ps) (ascends_from (suc p.key) (suc e.key) (keys es) (omega arith) h.1))
 
 module _ (e : Row) (es : List Row) (ascend : Ascends (suc e.key) (keys es)) where
   -- the prior is at its end
@@ -52,33 +54,46 @@ unfolding with_evidence
 evidence_alone a [] h = refl
 evidence_alone a (e ∷ es) h = evidence_last e es h.1 ∙ ap (λ (l : List Row). e ∷ l) (evidence_alone (suc e.key) es h.1)
 
-gains_one : (o : Option ℕ) (c : ℕ) → gained o (some c) ≤ 1
-gains_one none c = omega arith
-gains_one (some d) c = omega arith
+gains_one : (o : Option ℕ) (c : ℕ) → gained o (Some c) ≤ 1
+gains_one None c = omega arith
+gains_one (Some d) c = omega arith
 
 -- no more children than both list
 pub merged_length : (es ps : List Row) → length (with_evidence es ps) ≤ length es + length ps
 unfolding with_evidence
 merged_length [] ps = omega arith
 merged_length (e ∷ es) ps =
-    omega (arith, merged_length es (change (some e.count) (λ c. c + e.count) e.key ps), length_change (some e.count) (λ c. c + e.count) e.key ps, gains_one (look e.key ps) e.count)
+    omega (arith, merged_length es (change (Some e.count) (λ c. c + e.count) e.key ps), length_change (Some e.count) (λ c. c + e.count) e.key ps, gains_one (look e.key ps) e.count)
 
 -- ---- the entries of a book
 
 module _ (book : List ℕ) (at end : ℕ) where
   pub entries_length : length (child_entries book at end) ≡ end - at
-  unfolding child_entries
   entries_length = length-map (part book at end) child_row ∙ length_rows (drop (24 * at) book) (end - at)
 
   pub entries_end : end ≤ at → child_entries book at end ≡ []
-  unfolding child_entries
   entries_end h = ap (map child_row) (part_none book at end h)
 
   pub entries_step : at < end → child_entries book at end ≡ child_row (row_at book (24 * at)) ∷ child_entries book (at + 1) end
-  unfolding child_entries
   entries_step h = ap (map child_row) (part_cons book at end h)
 
 -- ---- the merge of a chain and entries
+
+-- links rise and lead to records, and the entries are there and ascend
+pub record Mergeable (children : List ℕ) (link : ℕ) (book : List ℕ) (at end : ℕ) : Type 0 where
+  pub links_rise : every_child children (next_link_fits children) ≡ true
+  pub link_fits : link ≤ record_count children
+  pub place_fits : at ≤ end
+  pub entries_fit : entry_size * end ≤ length book
+  pub children_ascend : Ascends 0 (keys (child_entries book at end))
+
+pub merge_ready : (m : Merge) → Mergeable m.children.now m.link m.bytes.now m.at m.end
+merge_ready m = record { links_rise = m.links_rise; link_fits = m.link_fits; place_fits = m.place_fits; entries_fit = m.entries_fit; children_ascend = m.children_ascend }
+
+-- the first child of a merge and where it goes on
+pub record FirstMerged (children : List ℕ) (link : ℕ) (book : List ℕ) (at end : ℕ) (rank count link' at' : ℕ) : Type 0 where
+  pub first_is : merged_from children link book at end ≡ row rank count ∷ merged_from children link' book at' end
+  pub goes_on : Mergeable children link' book at' end
 
 module _ (children : List ℕ) (link : ℕ) (book : List ℕ) (at end : ℕ) (ready : Mergeable children link book at end) where
   -- the entry at hand, and what is asked of those after it
@@ -118,49 +133,39 @@ module _ (children : List ℕ) (link : ℕ) (book : List ℕ) (at end : ℕ) (re
   no_chain : link ≡ 0 → children_of children link ≡ []
   no_chain gone = ap (children_of children) gone ∙ rows_end children ready.links_rise
 
-  pub only_entry : link ≡ 0 → at < end → (child : Child) → row child.rank child.count ≡ child_row (row_at book (24 * at)) → child.count < 2 ^ 32
-      → FirstMerged children link book at end (of_entry child link at)
+  pub only_entry : link ≡ 0 → at < end → (child : Child) → row child.rank child.count ≡ child_row (row_at book (24 * at)) → FirstMerged children link book at end child.rank child.count link (at + 1)
   unfolding merged_from
-  only_entry gone left child is small = record {
+  only_entry gone left child is = record {
     first_is = rw (no_chain gone, entries_are left child is) (evidence_last (row child.rank child.count) (child_entries book (at + 1) end) (ascend_after left child is));
-    count_small = omega arith;
     goes_on = after_entry left child is link ready.link_fits;
   }
 
-  pub only_record : 0 < link → end ≤ at → (prior : Record) → prior ≡ record_at children (link - 1) → prior.count < 2 ^ 32
-      → FirstMerged children link book at end (of_record prior at)
+  pub only_record : 0 < link → end ≤ at → (prior : Record) → prior ≡ record_at children (link - 1) → FirstMerged children link book at end prior.rank prior.count prior.link at
   unfolding merged_from with_evidence
-  only_record more gone prior is small = record {
+  only_record more gone prior is = record {
     first_is = rw (entries_end book at end gone, chain_is more prior is);
-    count_small = omega arith;
     goes_on = after_record more prior is;
   }
 
   module _ (more : 0 < link) (prior : Record) (prior-is : prior ≡ record_at children (link - 1)) (left : at < end) (child : Child) (child-is : row child.rank child.count ≡ child_row (row_at book (24 * at))) where
-    pub record_lower : prior.rank < child.rank → prior.count < 2 ^ 32
-        → FirstMerged children link book at end (of_record prior at)
+    pub record_lower : prior.rank < child.rank → FirstMerged children link book at end prior.rank prior.count prior.link at
     unfolding merged_from
-    record_lower l small = record {
+    record_lower l = record {
       first_is = rw (entries_are left child child-is, chain_is more prior prior-is) (prior_first (row child.rank child.count) (child_entries book (at + 1) end) (ascend_after left child child-is) (row prior.rank prior.count) (children_of children prior.link) l);
-      count_small = omega arith;
       goes_on = after_record more prior prior-is;
     }
 
-    pub entry_lower : child.rank < prior.rank → child.count < 2 ^ 32
-        → FirstMerged children link book at end (of_entry child link at)
+    pub entry_lower : child.rank < prior.rank → FirstMerged children link book at end child.rank child.count link (at + 1)
     unfolding merged_from
-    entry_lower l small = record {
+    entry_lower l = record {
       first_is = rw (entries_are left child child-is, chain_is more prior prior-is) (evidence_first (row child.rank child.count) (child_entries book (at + 1) end) (ascend_after left child child-is) (row prior.rank prior.count) (children_of children prior.link) l);
-      count_small = omega arith;
       goes_on = after_entry left child child-is link ready.link_fits;
     }
 
-    pub same_child : child.rank ≡ prior.rank → prior.count < 2 ^ 32 → child.count < 2 ^ 32
-        → FirstMerged children link book at end (record { rank = prior.rank; count = prior.count + child.count; link = prior.link; at = at + 1 })
+    pub same_child : child.rank ≡ prior.rank → FirstMerged children link book at end prior.rank (prior.count + child.count) prior.link (at + 1)
     unfolding merged_from
-    same_child q small few = record {
+    same_child q = record {
       first_is = rw (entries_are left child child-is, chain_is more prior prior-is) (both_first (row child.rank child.count) (child_entries book (at + 1) end) (ascend_after left child child-is) (row prior.rank prior.count) (children_of children prior.link) q);
-      count_small = omega arith;
       goes_on = after_entry left child child-is prior.link (next_fits more prior prior-is);
     }
 

@@ -1,5 +1,5 @@
 -- A book's entries as nodes: a part of the book by its first entry, where a node's children end, and what the nodes from a place on are. Assumes nothing.
-use Rattle.std.proofs.Common.{◌≡◌, ℕ, zero, suc, ◌+◌, ◌-◌, ◌*◌, ◌^◌, ◌<◌, ◌≤◌, Bool, true, false, cond, ◌&&◌, eqb, ltb, List, [], ◌∷◌, map, length, get_or, drop, sym, refl, ap, ◌∙◌, ap₂, add-zero, arith, get_or-drop, drop-drop, eq-eqb, ne_eqb, eqb-true}
+use Rattle.std.proofs.Common.{◌≡◌, ℕ, suc, ◌+◌, ◌-◌, ◌*◌, ◌<◌, ◌≤◌, Bool, true, false, cond, ◌&&◌, eqb, ltb, List, [], ◌∷◌, map, length, get_or, drop, sym, refl, ap, ◌∙◌, ap₂, add-zero, arith, drop-drop, eqb-true}
 use Rattle.priors.specs.Word.{word}
 use Rattle.priors.specs.Address.{rank_at}
 use Rattle.priors.specs.Rows.{Row}
@@ -7,7 +7,7 @@ use Rattle.priors.specs.Search.{blank, place, holds}
 use Rattle.priors.specs.Priors.{count_sum, total}
 use Rattle.priors.proofs.BelowLaws.{second_true}
 use Rattle.priors.proofs.Ranks.{Bytes, word_lt, rank_at_lt}
-use Rattle.entries.specs.declared.entries.Found.TheVariants.{At, Missing}
+use Rattle.std.specs.Prelude.{Ok, Err}
 use Rattle.entries.specs.Keys.{end_key, node_of, kind_of, child_of}
 use Rattle.entries.specs.Entries.{key_at, row_at, rows, find_in}
 use Rattle.entries.proofs.KeyLaws.{key_node, key_kind, key_child}
@@ -53,14 +53,14 @@ count_here book a = refl
 
 -- ---- where a node's children end
 
-module _ (book : List ℕ) (bytes : Bytes book) (i used : ℕ) (l : i < used) where
-  pub leading_ending : word book (24 * i + 8) ≡ 0 → leading (part book i used) ≡ 0
+module _ (book : List ℕ) (i used : ℕ) (l : i < used) where
+  pub leading_ending : eqb (kind_of (row_at book (24 * i)).key) 0 ≡ true → leading (part book i used) ≡ 0
   unfolding leading
-  leading_ending z = rw (part_cons book i used l, kind_here book bytes (24 * i), eq-eqb (word book (24 * i + 8)) 0 z)
+  leading_ending z = rw (part_cons book i used l, z)
 
-  pub leading_child : (word book (24 * i + 8) ≡ 0 → ⊥) → leading (part book i used) ≡ suc (leading (part book (i + 1) used))
+  pub leading_child : eqb (kind_of (row_at book (24 * i)).key) 0 ≡ false → leading (part book i used) ≡ suc (leading (part book (i + 1) used))
   unfolding leading
-  leading_child z = rw (part_cons book i used l, kind_here book bytes (24 * i), ne_eqb (word book (24 * i + 8)) 0 z)
+  leading_child z = rw (part_cons book i used l, z)
 
 pub leading_none : (book : List ℕ) (i used : ℕ) → used ≤ i → leading (part book i used) ≡ 0
 unfolding leading
@@ -84,15 +84,6 @@ pub sum_none : (book : List ℕ) (i to : ℕ) → to ≤ i → count_sum (part b
 unfolding count_sum
 sum_none book i to h = rw (part_none book i to h)
 
--- a sum of counts of 32 bits
-rows_sum_le : (s : List ℕ) → Bytes s → (n : ℕ) → count_sum (rows s n) ≤ 2 ^ 32 * n
-unfolding count_sum rows row_at
-rows_sum_le s bytes zero = omega arith
-rows_sum_le s bytes (suc n) = omega (arith, word_lt s bytes 20, rows_sum_le (drop 24 s) (λ i. rw (get_or-drop 24 s i 0) (bytes (24 + i))) n)
-
-pub sum_le : (book : List ℕ) → Bytes book → (i to : ℕ) → count_sum (part book i to) ≤ 2 ^ 32 * to
-sum_le book bytes i to = omega (arith, rows_sum_le (drop (24 * i) book) (λ j. rw (get_or-drop (24 * i) book j 0) (bytes (24 * i + j))) (to - i))
-
 sum_children : (rs : List Row) → count_sum (map child_row rs) ≡ count_sum rs
 unfolding count_sum
 sum_children [] = refl
@@ -105,17 +96,17 @@ evidence_total_lem book i to l = omega (arith, sum_children (part book (i + 1) t
 
 -- ---- an ending that is found
 
-key_found : (rs : List Row) (k i : ℕ) → At i ≡ find_in rs k → (get_or rs i blank).key ≡ k
+key_found : (rs : List Row) (k i : ℕ) → Ok i ≡ find_in rs k → (get_or rs i blank).key ≡ k
 unfolding find_in holds
 key_found rs k i h = go (ltb (place rs k) (length rs) && eqb (get_or rs (place rs k) blank).key k) refl h
   where
-    go : (b : Bool) → ltb (place rs k) (length rs) && eqb (get_or rs (place rs k) blank).key k ≡ b → At i ≡ cond b (At (place rs k)) (Missing (place rs k)) → (get_or rs i blank).key ≡ k
+    go : (b : Bool) → ltb (place rs k) (length rs) && eqb (get_or rs (place rs k) blank).key k ≡ b → Ok i ≡ cond b (Ok (place rs k)) (Err (place rs k)) → (get_or rs i blank).key ≡ k
     go true e h =
         let is : place rs k ≡ i = cc in
         ap (λ (j : ℕ). (get_or rs j blank).key) (sym is) ∙ eqb-true (get_or rs (place rs k) blank).key k (second_true (ltb (place rs k) (length rs)) (eqb (get_or rs (place rs k) blank).key k) e)
     go false e h = let z : ◌≡◌ {A = ℕ} 0 1 = cc in absurd (omega arith)
 
 -- is its node's
-pub found_node : (book : List ℕ) → Bytes book → (used a i : ℕ) → i < used → At i ≡ find_in (rows book used) (end_key a) → node_at book i ≡ a
-found_node book bytes used a i l h =
-    sym (node_here book bytes (24 * i)) ∙ ap (λ (r : Row). node_of r.key) (sym (get_d_rows book used i blank l)) ∙ ap node_of (key_found (rows book used) (end_key a) i h) ∙ node_end a
+pub found_node : (book : List ℕ) (used a i : ℕ) → i < used → Ok i ≡ find_in (rows book used) (end_key a) → node_at book i ≡ a
+found_node book used a i l h =
+    ap (λ (r : Row). node_of r.key) (sym (get_d_rows book used i blank l)) ∙ ap node_of (key_found (rows book used) (end_key a) i h) ∙ node_end a

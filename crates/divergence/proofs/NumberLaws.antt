@@ -1,6 +1,6 @@
 -- Which numbers a reading is refused with: where the form is whole, never 9. Assumes nothing.
 use Rattle.std.proofs.Common.{◌≡◌, ℕ, zero, suc, Bool, true, false, cond, ltb, List, [], ◌∷◌, length, refl, arith}
-use mathlib.Core.Option.{Option, none, some}
+use Rattle.std.specs.Prelude.{Option, None, Some}
 use lib.Ieee.{Float}
 use Rattle.priors.specs.Address.{rank_of}
 use Rattle.priors.specs.Tables.{tables_refusal}
@@ -8,8 +8,9 @@ use Rattle.priors.specs.Priors.{layer_of, Counts, prior_of, priors_refusal}
 use Rattle.priors.proofs.RuleLaws.{not_nine, tables_keep, priors_keep}
 use Rattle.book.specs.Path.{Steps}
 use Rattle.book.specs.Recount.{sequence_length}
-use Rattle.divergence.specs.declared.divergences.NodeDivergence.{NodeDivergence}
-use Rattle.divergence.specs.declared.divergences.NodeDivergence.TheVariants.{Value, NoPrior, MissingChild, PastTable}
+use Rattle.std.specs.Prelude.{Result, Ok, Err}
+use Rattle.priors.specs.declared.refusals.NodeReason.{NodeReason}
+use Rattle.priors.specs.declared.refusals.NodeReason.TheVariants.{MissingChild, PastTable}
 use Rattle.divergence.specs.Nodes.{Node, evidence_of}
 use Rattle.divergence.specs.RecountNodes.{recount_nodes}
 use Rattle.divergence.specs.Probability as Vectors
@@ -45,7 +46,7 @@ unless_other {n = suc n} h i = record { is_not_nine = h }
 fitting_other : {X : Type 0} (places have : ℕ) {r : Reading X} → Other r → Other (fitting places have r)
 fitting_other places have {r} h = go (ltb have places)
   where
-    go : (b : Bool) → Other (cond b (refused 13 none) r)
+    go : (b : Bool) → Other (cond b (refused 13 None) r)
     go true = record { is_not_nine = λ e. omega arith }
     go false = h
 
@@ -56,18 +57,18 @@ nothing_other : {X : Type 0} → Other {X = X} nothing
 nothing_other = record { is_not_nine = λ e. omega arith }
 
 vector_other : (have : ℕ) (o : Option Counts) → Other (vector_reading have o)
-vector_other have none = nothing_other
-vector_other have (some c) = fitting_other (length c.children) have (answered_other c)
+vector_other have None = nothing_other
+vector_other have (Some c) = fitting_other (length c.children) have (answered_other c)
 
-divergence_other : (rank : ℕ) (d : NodeDivergence) → Other (divergence_reading rank d)
-divergence_other rank (Value x) = answered_other x
-divergence_other rank NoPrior = nothing_other
-divergence_other rank MissingChild = record { is_not_nine = λ e. omega arith }
-divergence_other rank PastTable = record { is_not_nine = λ e. omega arith }
+divergence_other : (rank : ℕ) (d : (Result (Option Float) NodeReason)) → Other (divergence_reading rank d)
+divergence_other rank (Ok (Some x)) = answered_other x
+divergence_other rank (Ok None) = nothing_other
+divergence_other rank (Err MissingChild) = record { is_not_nine = λ e. omega arith }
+divergence_other rank (Err PastTable) = record { is_not_nine = λ e. omega arith }
 
 listed_other : (G D : List Float) (nodes children : List ℕ) (layer rank : ℕ) (o : Option Counts) → Other (of_listed G D nodes children layer rank o)
-listed_other G D nodes children layer rank none = nothing_other
-listed_other G D nodes children layer rank (some c) = divergence_other rank (node_divergence G D (prior_of nodes children layer rank) c)
+listed_other G D nodes children layer rank None = nothing_other
+listed_other G D nodes children layer rank (Some c) = divergence_other rank (node_divergence G D (prior_of nodes children layer rank) c)
 
 -- a walk ends by 14 or 15
 abbrev pub walk_number : Walk → ℕ
@@ -92,11 +93,11 @@ pub stats_number : (len : ℕ) (w : Walk) → reading_number (stats_reading_of l
 stats_number len (stopped n node) = refl
 stats_number len (walked ps k) = refl
 
-visited_not : (node : ℕ) (d : NodeDivergence) (rest : Walk) → Not9 (walk_number rest) → Not9 (walk_number (visited node d rest))
-visited_not node (Value x) rest h = rw (placed_number (record { address = node; value = x }) rest) h
-visited_not node NoPrior rest h = rw (skipping_number rest) h
-visited_not node MissingChild rest h = λ e. omega arith
-visited_not node PastTable rest h = λ e. omega arith
+visited_not : (node : ℕ) (d : (Result (Option Float) NodeReason)) (rest : Walk) → Not9 (walk_number rest) → Not9 (walk_number (visited node d rest))
+visited_not node (Ok (Some x)) rest h = rw (placed_number (record { address = node; value = x }) rest) h
+visited_not node (Ok None) rest h = rw (skipping_number rest) h
+visited_not node (Err MissingChild) rest h = λ e. omega arith
+visited_not node (Err PastTable) rest h = λ e. omega arith
 
 walk_not : (G D : List Float) (nodes children : List ℕ) (layer : ℕ) (ns : List Node) → Not9 (walk_number (walk G D nodes children layer ns))
 unfolding walk

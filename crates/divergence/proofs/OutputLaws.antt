@@ -1,21 +1,11 @@
--- The room in an output, and its filling place by place: after each write, what is left to be written at the next place gives the same whole. Assumes nothing.
-use Rattle.std.proofs.Common.{◌≡◌, ℕ, suc, ◌+◌, ◌*◌, ◌<◌, ◌≤◌, min, List, [], ◌∷◌, ◌++◌, length, take, drop, set, refl, ap, ◌∙◌, append_assoc, add-zero, zero-add, arith, length-append, take-append-drop, take-suc-set, drop-set-lt}
-use native.Mathlib.Nat.{min-le_left, min-le_right}
+-- The filling of an output, place by place: after each write, what is left to be written at the next place gives the same whole. Assumes nothing.
+use Rattle.std.proofs.Common.{◌≡◌, ℕ, suc, ◌+◌, ◌*◌, ◌≤◌, List, [], ◌∷◌, ◌++◌, length, take, drop, set, refl, ap, ◌∙◌, append_assoc, add-zero, zero-add, arith, length-append, take-append-drop, take-suc-set, drop-set-lt}
 use mathlib.Core.List.{flat_map}
 use lib.Ieee.{Float}
 use Rattle.priors.specs.Word.{store}
 use Rattle.priors.specs.Address.{address_bytes}
 use Rattle.priors.proofs.Fields.{store_store}
 use Rattle.divergence.specs.Readings.{filled_addresses, filled_figures}
-
--- ---- 13
-
--- the slice with fewer whole places decides
-pub short_addresses : (a b n : ℕ) → a < n → min a b < n
-short_addresses a b n h = omega (arith, min-le_left a b)
-
-pub short_figures : (a b n : ℕ) → b < n → min a b < n
-short_figures a b n h = omega (arith, min-le_right a b)
 
 -- ---- addresses
 

@@ -2,8 +2,7 @@
 -- each under one row, and a step of a path is followed or is its end. Assumes nothing.
 use Rattle.std.proofs.Common.{◌≡◌, ℕ, ◌+◌, Bool, true, false, cond, eqb, List, [], ◌∷◌, map, length, sym, refl, ap, ◌∙◌, ⊎_elim, arith, eq-eqb, ne_eqb}
 use mathlib.Core.List.{flat_map}
-use mathlib.Core.Option
-use mathlib.Core.Option.{none, some}
+use Rattle.std.specs.Prelude.{None, Some, option_map}
 use Rattle.priors.specs.Rows.{row}
 use Rattle.priors.specs.Priors.{count_sum}
 use Rattle.priors.specs.Priors as Priors
@@ -59,26 +58,26 @@ module _ (W : ℕ) (H L : List Steps) (ends : EndsWith W H L) (ranks : AllRanks 
 
   -- ---- the evidence of a listed node, and of one that is not listed
 
-  evidence_some : (ns : List ℕ) → In a ns → evidence_of a (map (node_counted W H L) ns) ≡ some (node_counted W H L a).evidence
+  evidence_some : (ns : List ℕ) → In a ns → evidence_of a (map (node_counted W H L) ns) ≡ Some (node_counted W H L a).evidence
   unfolding evidence_of node_counted
   evidence_some [] i = in_none a i
   evidence_some (n ∷ ns) i = go (compared n a) (evidence_some ns)
     where
-      go : Alike n a → (In a ns → evidence_of a (map (node_counted W H L) ns) ≡ some (node_counted W H L a).evidence) → evidence_of a (map (node_counted W H L) (n ∷ ns)) ≡ some (node_counted W H L a).evidence
+      go : Alike n a → (In a ns → evidence_of a (map (node_counted W H L) ns) ≡ Some (node_counted W H L a).evidence) → evidence_of a (map (node_counted W H L) (n ∷ ns)) ≡ Some (node_counted W H L a).evidence
       go (alike q t) ih = rw (q, eq-eqb a a refl)
       go (unlike q t) ih = rw t (ih (⊎_elim (λ e. absurd (q (sym e))) (λ m. m) (in_cons a n ns i)))
 
-  evidence_none : (ns : List ℕ) → (In a ns → ⊥) → evidence_of a (map (node_counted W H L) ns) ≡ none
+  evidence_none : (ns : List ℕ) → (In a ns → ⊥) → evidence_of a (map (node_counted W H L) ns) ≡ None
   unfolding evidence_of node_counted
   evidence_none [] o = refl
   evidence_none (n ∷ ns) o = rw (ne_eqb n a (λ q. o (in_head a n ns (sym q)))) (evidence_none ns (λ i. o (in_tail a n ns i)))
 
-  pub evidence_visits : Somewhere (occurrences a) L → Option.map Priors.total (evidence_of a (recount_nodes W H L)) ≡ some (visits W H a)
+  pub evidence_visits : Somewhere (occurrences a) L → option_map Priors.total (evidence_of a (recount_nodes W H L)) ≡ Some (visits W H a)
   unfolding recount_nodes nodes_listed
   evidence_visits s =
-      ap (Option.map Priors.total) (evidence_some (nodes_listed L) (enter_all-in a (flat_map (λ (p : Steps). p) L) [] (omega (arith, stands_total a L ranks, total_above (occurrences a) L s.0 s.1, s.2))))
-      ∙ ap some node_visits
+      ap (option_map Priors.total) (evidence_some (nodes_listed L) (enter_all-in a (flat_map (λ (p : Steps). p) L) [] (omega (arith, stands_total a L ranks, total_above (occurrences a) L s.0 s.1, s.2))))
+      ∙ ap Some node_visits
 
-  pub evidence_missing : (Somewhere (occurrences a) L → ⊥) → evidence_of a (recount_nodes W H L) ≡ none
+  pub evidence_missing : (Somewhere (occurrences a) L → ⊥) → evidence_of a (recount_nodes W H L) ≡ None
   unfolding recount_nodes nodes_listed
   evidence_missing o = evidence_none (nodes_listed L) (λ i. o (somewhere (occurrences a) L (omega (arith, stands_total a L ranks, in_entered a (flat_map (λ (p : Steps). p) L) i))))

@@ -1,28 +1,28 @@
 -- A walk from node to node over a book's entries: the node at a place and the nodes after it, and how each reading goes on from one node to the next. Assumes nothing.
 use Rattle.std.proofs.Common.{◌≡◌, ℕ, zero, suc, ◌+◌, ◌-◌, ◌*◌, ◌<◌, ◌≤◌, Bool, true, false, cond, eqb, List, [], ◌∷◌, map, length, drop, sym, refl, ap, ◌∙◌, ap₂, add-zero, zero-add, arith, drop-drop}
-use mathlib.Core.Option.{some}
 use lib.Ieee.{Float, lt}
 use Rattle.priors.specs.Address.{address_of}
 use Rattle.priors.specs.Rows.{Row}
-use Rattle.priors.specs.Refusals.{number_of, named_node}
+use Rattle.priors.specs.Refusals.{node_reason_number}
+use Rattle.priors.proofs.Orders.{Alike, alike, unlike, compared}
 use Rattle.priors.specs.Priors.{prior_of}
-use Rattle.priors.proofs.Ranks.{Bytes}
 use Rattle.entries.specs.Keys.{node_of, kind_of}
 use Rattle.entries.specs.Entries.{row_at, rows}
 use Rattle.entries.proofs.EntryLaws.{length_rows}
-use Rattle.divergence.specs.declared.divergences.NodeDivergence.{NodeDivergence}
-use Rattle.divergence.specs.declared.divergences.NodeDivergence.TheVariants.{Value, NoPrior, MissingChild, PastTable}
-use Rattle.divergence.specs.declared.statistics.Tally.{Tally}
-use Rattle.divergence.specs.declared.statistics.Tallied.{Tallied}
-use Rattle.divergence.specs.declared.statistics.Tallied.TheVariants.{On, Stopped}
+use Rattle.std.specs.Prelude.{Option, None, Some, Result, Ok, Err, MatchResult}
+use Rattle.priors.specs.declared.refusals.Refusal.{Refusal}
+use Rattle.priors.specs.declared.refusals.Refusal.TheVariants.{AtNode}
+use Rattle.divergence.specs.Answers.{kl_answer}
+use Rattle.priors.specs.declared.refusals.NodeReason.{NodeReason}
+use Rattle.priors.specs.declared.refusals.NodeReason.TheVariants.{MissingChild, PastTable}
+use Rattle.divergence.specs.declared.statistics.KLDivergenceStats.{KLDivergenceStats}
 use Rattle.divergence.specs.Numbers.{tiny64}
 use Rattle.divergence.specs.Nodes.{Node, child_row, spread, listed_nodes}
 use Rattle.divergence.specs.Parts.{part, leading, node_at, evidence_at, nodes_from}
 use Rattle.divergence.specs.Divergence.{node_divergence}
 use Rattle.divergence.specs.Statistics.{Walk, stopped, walked, visited, walk, noted, counted, stats_over, no_stats}
-use Rattle.divergence.specs.Readings.{Reading, refused, answered, Statistics, stats_reading_of}
-use Rattle.divergence.specs.Tallies.{tally_of}
-use Rattle.divergence.proofs.NodeLaws.{part_cons, part_none, leading_le, node_here, count_here}
+use Rattle.divergence.specs.Readings.{Reading, refused, answered, Statistics, stats_reading_of, divergence_reading}
+use Rattle.divergence.proofs.NodeLaws.{part_cons, part_none, leading_le, count_here}
 
 -- ---- rows as children and nodes
 
@@ -152,10 +152,10 @@ module _ (book : List ℕ) (i used : ℕ) (h : i ≤ used) where
   end_nodes = after_children (drop (24 * i) book) (used - i) ∙ ap listed_nodes past_part
 
 -- the node whose ending stands at i, and the nodes after it
-pub nodes_cons : (book : List ℕ) → Bytes book → (i used : ℕ) → i < used → leading (part book i used) ≡ 0
+pub nodes_cons : (book : List ℕ) (i used : ℕ) → i < used → leading (part book i used) ≡ 0
     → nodes_from book i used
     ≡ record { address = node_at book i; evidence = evidence_at book i (i + 1 + leading (part book (i + 1) used)) } ∷ nodes_from book (i + 1 + leading (part book (i + 1) used)) used
-nodes_cons book bytes i used l h =
+nodes_cons book i used l h =
     let r = row_at book (24 * i) in
     let rest = part book (i + 1) used in
     let to = i + 1 + leading rest in
@@ -163,57 +163,8 @@ nodes_cons book bytes i used l h =
     let ending = ends_first r rest (sym (ap leading here) ∙ h) in
     let size : leading rest ≡ to - (i + 1) = omega arith in
     let children : (spread rest).0 ≡ map child_row (part book (i + 1) to) = front_children (drop (24 * (i + 1)) book) (used - (i + 1)) ∙ ap (λ (k : ℕ). map child_row (rows (drop (24 * (i + 1)) book) k)) size in
-    let node : ◌≡◌ {A = Node} (record { address = node_of r.key; evidence = record { ending = r.count; children = (spread rest).0 } }) (record { address = node_at book i; evidence = evidence_at book i to }) = λ j. record { address = node_here book bytes (24 * i) j; evidence = record { ending = count_here book (24 * i) j; children = children j } } in
+    let node : ◌≡◌ {A = Node} (record { address = node_of r.key; evidence = record { ending = r.count; children = (spread rest).0 } }) (record { address = node_at book i; evidence = evidence_at book i to }) = λ j. record { address = node_at book i; evidence = record { ending = count_here book (24 * i) j; children = children j } } in
     ap listed_nodes here ∙ nodes_ending r rest ending ∙ ap₂ (λ (n : Node) (ns : List Node). n ∷ ns) node (end_nodes book (i + 1) used (omega arith))
-
--- ---- the statistics, node by node
-
--- the reading that a tally and the walk over the nodes still to come give
-abbrev pub tally_reading : Tally → Walk → Reading Statistics
-tally_reading t (stopped n node) = refused n (some (address_of node))
-tally_reading t (walked ps k) = answered (record { stats = stats_over t.stats ps; skipped = t.skipped + k })
-
--- and after one more node
-abbrev pub tallied_reading : Tallied → Walk → Reading Statistics
-tallied_reading (On t) rest = tally_reading t rest
-tallied_reading (Stopped r) rest = refused (number_of r) (named_node r)
-
--- a node goes into the tally, and the nodes after it follow
-pub tally_on : (t : Tally) (node : ℕ) (x : NodeDivergence) (rest : Walk) → tally_reading t (visited node x rest) ≡ tallied_reading (tally_of t node x) rest
-unfolding stats_over
-tally_on t node (Value x) (stopped n a) = refl
-tally_on t node (Value x) (walked ps k) = refl
-tally_on t node NoPrior (stopped n a) = refl
-tally_on t node NoPrior (walked ps k) = ap (λ (m : ℕ). answered (record { stats = stats_over t.stats ps; skipped = m })) (omega arith)
-tally_on t node MissingChild rest = refl
-tally_on t node PastTable rest = refl
-
-pub tally_start : (length : ℕ) (w : Walk) → tally_reading (record { stats = no_stats length; skipped = 0 }) w ≡ stats_reading_of length w
-tally_start length (stopped n a) = refl
-tally_start length (walked ps k) = ap (λ (m : ℕ). answered (record { stats = stats_over (no_stats length) ps; skipped = m })) (zero-add k)
-
-pub tally_end : (t : Tally) → tally_reading t (walked [] 0) ≡ answered (record { stats = t.stats; skipped = t.skipped })
-unfolding stats_over
-tally_end t = ap (λ (m : ℕ). answered (record { stats = t.stats; skipped = m })) (add-zero t.skipped)
-
--- a tally grows by 1 at most
-pub record Grown (before after : Tally) : Type 0 where
-  pub counted_le : after.stats.nz_count ≤ before.stats.nz_count + 1
-  pub skipped_le : after.skipped ≤ before.skipped + 1
-
-pub tally_grows : (t : Tally) (node : ℕ) (x : NodeDivergence) (u : Tally) → tally_of t node x ≡ On u → Grown t u
-unfolding noted counted
-tally_grows t node (Value x) u h = rw (sym (on_one h)) (go (lt tiny64 x))
-  where
-    on_one : {a b : Tally} → On a ≡ On b → a ≡ b
-    on_one e = cc
-
-    go : (b : Bool) → Grown t (record { stats = cond b (counted t.stats x) t.stats; skipped = t.skipped })
-    go true = record { counted_le = omega arith; skipped_le = omega arith }
-    go false = record { counted_le = omega arith; skipped_le = omega arith }
-tally_grows t node NoPrior u h = let e : ◌≡◌ {A = Tally} (record { stats = t.stats; skipped = t.skipped + 1 }) u = cc in rw (sym e) (record { counted_le = omega arith; skipped_le = omega arith })
-tally_grows t node MissingChild u h = let z : ◌≡◌ {A = ℕ} 0 1 = cc in absurd (omega arith)
-tally_grows t node PastTable u h = let z : ◌≡◌ {A = ℕ} 0 1 = cc in absurd (omega arith)
 
 -- ---- from an ending to the next
 
@@ -224,34 +175,15 @@ pub record Next (book : List ℕ) (i to used : ℕ) : Type 0 where
   pub ends : leading (part book to used) ≡ 0
   pub nodes_are : nodes_from book i used ≡ record { address = node_at book i; evidence = evidence_at book i to } ∷ nodes_from book to used
 
-pub next : (book : List ℕ) → Bytes book → (i to used : ℕ) → i < used → leading (part book i used) ≡ 0 → to ≡ i + 1 + leading (part book (i + 1) used) → Next book i to used
-next book bytes i to used l h e =
+pub next : (book : List ℕ) (i to used : ℕ) → i < used → leading (part book i used) ≡ 0 → to ≡ i + 1 + leading (part book (i + 1) used) → Next book i to used
+next book i to used l h e =
     rw e
     (record {
       later = omega arith;
       within = end_le book (i + 1) used (omega arith);
       ends = end_ends book (i + 1) used (omega arith);
-      nodes_are = nodes_cons book bytes i used l h;
+      nodes_are = nodes_cons book i used l h;
     })
-
-module _ (G D : List Float) (nodes children : List ℕ) (layer : ℕ) (book : List ℕ) where
-  -- the divergence of the node whose ending stands at i
-  abbrev pub divergence_at : ℕ → ℕ → NodeDivergence
-  divergence_at i to = node_divergence G D (prior_of nodes children layer (node_at book i)) (evidence_at book i to)
-
-  abbrev pub walk_from : ℕ → ℕ → Walk
-  walk_from i used = walk G D nodes children layer (nodes_from book i used)
-
-  pub walk_next : (i to used : ℕ) → Next book i to used → walk_from i used ≡ visited (node_at book i) (divergence_at i to) (walk_from to used)
-  unfolding walk
-  walk_next i to used n = ap (walk G D nodes children layer) n.nodes_are
-
-  pub walk_end : (i used : ℕ) → used ≤ i → walk_from i used ≡ walked [] 0
-  unfolding walk listed_nodes spread
-  walk_end i used h = ap (λ (rs : List Row). walk G D nodes children layer (listed_nodes rs)) (part_none book i used h)
-
-  pub tally_next : (t : Tally) (i to used : ℕ) → Next book i to used → tally_reading t (walk_from i used) ≡ tallied_reading (tally_of t (node_at book i) (divergence_at i to)) (walk_from to used)
-  tally_next t i to used n = ap (tally_reading t) (walk_next i to used n) ∙ tally_on t (node_at book i) (divergence_at i to) (walk_from to used)
 
 -- the first ending stands at i, or there is no node
 pub record First (book : List ℕ) (i used : ℕ) : Type 0 where
@@ -261,3 +193,83 @@ pub record First (book : List ℕ) (i used : ℕ) : Type 0 where
 
 pub first : (book : List ℕ) (i used : ℕ) → i ≡ 0 + leading (part book 0 used) → First book i used
 first book i used e = rw e (record { within = end_le book 0 used (omega arith); ends = end_ends book 0 used (omega arith); nodes_are = end_nodes book 0 used (omega arith) })
+
+-- a list of nodes has no more than the entries
+nodes_few : (rs : List Row) → length (listed_nodes rs) ≤ length rs
+unfolding listed_nodes spread
+nodes_few [] = omega arith
+nodes_few (r ∷ rs) = go (compared (kind_of r.key) 0) (nodes_few rs)
+  where
+    go : Alike (kind_of r.key) 0 → length (listed_nodes rs) ≤ length rs → length (listed_nodes (r ∷ rs)) ≤ suc (length rs)
+    go (alike z e) h = rw (nodes_ending r rs e) (omega arith)
+    go (unlike z e) h = rw (nodes_child r rs e) (omega arith)
+
+pub nodes_number : (book : List ℕ) (i used : ℕ) → length (nodes_from book i used) ≤ used
+nodes_number book i used = omega (arith, nodes_few (part book i used), length_rows (drop (24 * i) book) (used - i))
+
+pub nodes_none : (book : List ℕ) (i used : ℕ) → used ≤ i → nodes_from book i used ≡ []
+unfolding listed_nodes spread
+nodes_none book i used h = ap listed_nodes (part_none book i used h)
+
+-- ---- a walk, node by node
+
+module _ (G D : List Float) (nodes children : List ℕ) (layer : ℕ) where
+  -- the divergence of a node
+  abbrev pub divergence_of : Node → Result (Option Float) NodeReason
+  divergence_of n = node_divergence G D (prior_of nodes children layer n.address) n.evidence
+
+  -- a first node with this divergence, and the nodes after it
+  pub walk_next : (n : Node) (ns left : List Node) (x : Result (Option Float) NodeReason) → left ≡ n ∷ ns → divergence_of n ≡ x → walk G D nodes children layer left ≡ visited n.address x (walk G D nodes children layer ns)
+  unfolding walk
+  walk_next n ns left x h e = ap (walk G D nodes children layer) h ∙ ap (λ (y : Result (Option Float) NodeReason). visited n.address y (walk G D nodes children layer ns)) e
+
+  pub walk_end : walk G D nodes children layer [] ≡ walked [] 0
+  unfolding walk
+  walk_end = refl
+
+-- ---- the statistics, node by node
+
+-- the reading that the statistics so far and the walk over the nodes still to come give
+abbrev pub tally_reading : KLDivergenceStats → ℕ → Walk → Reading Statistics
+tally_reading s skipped (stopped n node) = refused n (Some (address_of node))
+tally_reading s skipped (walked ps k) = answered (record { stats = stats_over s ps; skipped = skipped + k })
+
+module _ (s : KLDivergenceStats) (skipped node : ℕ) where
+  pub tally_noted : (x : Float) (rest : Walk) → tally_reading s skipped (visited node (Ok (Some x)) rest) ≡ tally_reading (noted s x) skipped rest
+  unfolding stats_over
+  tally_noted x (stopped n a) = refl
+  tally_noted x (walked ps k) = refl
+
+  pub tally_skipped : (rest : Walk) → tally_reading s skipped (visited node (Ok None) rest) ≡ tally_reading s (skipped + 1) rest
+  tally_skipped (stopped n a) = refl
+  tally_skipped (walked ps k) = ap (λ (m : ℕ). answered (record { stats = stats_over s ps; skipped = m })) (omega arith)
+
+  pub tally_stopped : (reason : NodeReason) (rest : Walk) → tally_reading s skipped (visited node (Err reason) rest) ≡ refused (node_reason_number reason) (Some (address_of node))
+  tally_stopped MissingChild rest = refl
+  tally_stopped PastTable rest = refl
+
+pub tally_start : (length : ℕ) (w : Walk) → tally_reading (no_stats length) 0 w ≡ stats_reading_of length w
+tally_start length (stopped n a) = refl
+tally_start length (walked ps k) = ap (λ (m : ℕ). answered (record { stats = stats_over (no_stats length) ps; skipped = m })) (zero-add k)
+
+pub tally_end : (s : KLDivergenceStats) (skipped : ℕ) → tally_reading s skipped (walked [] 0) ≡ answered (record { stats = s; skipped = skipped })
+unfolding stats_over
+tally_end s skipped = ap (λ (m : ℕ). answered (record { stats = s; skipped = m })) (add-zero skipped)
+
+-- the number of those that count grows by 1 at most
+pub noted_le : (s : KLDivergenceStats) (x : Float) → (noted s x).nz_count ≤ s.nz_count + 1
+unfolding noted counted
+noted_le s x = go (lt tiny64 x)
+  where
+    go : (b : Bool) → (cond b (counted s x) s).nz_count ≤ s.nz_count + 1
+    go true = omega arith
+    go false = omega arith
+
+-- ---- one node's reading
+
+-- the answer of a divergence whose reason is told with its node
+pub told_reading : (rank : ℕ) (x : Result (Option Float) NodeReason) (r : Result (Option Float) Refusal) → MatchResult x (λ v. r ≡ Ok v) (λ reason. (q : Refusal) × (r ≡ Err q) × (q ≡ AtNode reason (address_of rank))) → kl_answer r ≡ divergence_reading rank x
+told_reading rank (Ok (Some v)) r h = ap kl_answer h
+told_reading rank (Ok None) r h = ap kl_answer h
+told_reading rank (Err MissingChild) r h = ap kl_answer (h.1 ∙ ap Err h.2)
+told_reading rank (Err PastTable) r h = ap kl_answer (h.1 ∙ ap Err h.2)

@@ -1,7 +1,7 @@
 -- `≡` of figures is equality of their bits, any NaN equal to any NaN. And no reading tells minus zero: every sum of a divergence and of the statistics starts at plus
 -- zero, and no term that is added or taken away makes minus zero of that; a probability is a quotient without a minus. Assumes nothing.
 use Rattle.std.proofs.Common.{◌≡◌, ℕ, zero, suc, ◌+◌, ◌^◌, ◌<◌, Bool, true, false, cond, not, T, ltb, leb, List, [], ◌∷◌, ◌++◌, length, take, drop, sym, refl, ap, ◌∙◌, subst, inl, inr, true≢false}
-use mathlib.Core.Option.{Option, none, some}
+use Rattle.std.specs.Prelude.{Option, None, Some}
 use lib.ListN.{length-map}
 use lib.Seq.{take-append_seam}
 use lib.Ieee.{Float, nan, inf, fin, binary64, of_bits, to_bits, is_nan, fits, sub, neg, of_int, lt}
@@ -12,8 +12,9 @@ use Rattle.priors.specs.Tables.{tables_refusal, table_at, LentTables}
 use Rattle.priors.specs.Priors.{LentPriors, layer_of, Counts, total, prior_of, priors_refusal}
 use Rattle.book.specs.Figures.{All}
 use Rattle.divergence.specs.declared.sums.Sums.{Sums}
-use Rattle.divergence.specs.declared.divergences.NodeDivergence.{NodeDivergence}
-use Rattle.divergence.specs.declared.divergences.NodeDivergence.TheVariants.{Value, NoPrior, MissingChild, PastTable}
+use Rattle.std.specs.Prelude.{Result, Ok, Err}
+use Rattle.priors.specs.declared.refusals.NodeReason.{NodeReason}
+use Rattle.priors.specs.declared.refusals.NodeReason.TheVariants.{MissingChild, PastTable}
 use Rattle.divergence.specs.declared.statistics.KLDivergenceStats.{KLDivergenceStats}
 use Rattle.divergence.specs.Numbers.{fadd, fsub, fmul, flt, zero64, tiny64, min64, max64}
 use Rattle.divergence.specs.Nodes.{Node, evidence_of}
@@ -138,31 +139,31 @@ no_probability count whole e =
 
 -- ---- one node, and the walk over the listed nodes
 
-abbrev ClearNode : NodeDivergence → Type 0
-ClearNode (Value x) = Clear x
-ClearNode NoPrior = Unit {0}
-ClearNode MissingChild = Unit {0}
-ClearNode PastTable = Unit {0}
+abbrev ClearNode : (Result (Option Float) NodeReason) → Type 0
+ClearNode (Ok (Some x)) = Clear x
+ClearNode (Ok None) = Unit {0}
+ClearNode (Err MissingChild) = Unit {0}
+ClearNode (Err PastTable) = Unit {0}
 
 abbrev ClearWalk : Walk → Type 0
 ClearWalk (stopped n node) = Unit {0}
 ClearWalk (walked ps k) = All (λ (p : Place). Clear p.value) ps
 
-visited_clear : (node : ℕ) (d : NodeDivergence) (w : Walk) → ClearNode d → ClearWalk w → ClearWalk (visited node d w)
-visited_clear node (Value x) (stopped n m) h k = tt
-visited_clear node (Value x) (walked ps j) h k = (h, k)
-visited_clear node NoPrior (stopped n m) h k = tt
-visited_clear node NoPrior (walked ps j) h k = k
-visited_clear node MissingChild w h k = tt
-visited_clear node PastTable w h k = tt
+visited_clear : (node : ℕ) (d : (Result (Option Float) NodeReason)) (w : Walk) → ClearNode d → ClearWalk w → ClearWalk (visited node d w)
+visited_clear node (Ok (Some x)) (stopped n m) h k = tt
+visited_clear node (Ok (Some x)) (walked ps j) h k = (h, k)
+visited_clear node (Ok None) (stopped n m) h k = tt
+visited_clear node (Ok None) (walked ps j) h k = k
+visited_clear node (Err MissingChild) w h k = tt
+visited_clear node (Err PastTable) w h k = tt
 
 module _ (G D : List Float) where
   node_clear : (prior : Option Counts) (e : Counts) → ClearNode (node_divergence G D prior e)
   unfolding node_divergence
-  node_clear none e = tt
-  node_clear (some p) e = go (lacks_child p.children e.children) (leb (length G) (total p + total e))
+  node_clear None e = tt
+  node_clear (Some p) e = go (lacks_child p.children e.children) (leb (length G) (total p + total e))
     where
-      go : (b c : Bool) → ClearNode (cond b MissingChild (cond c PastTable (Value (divergence G D p e))))
+      go : (b c : Bool) → ClearNode (cond b (Err MissingChild) (cond c (Err PastTable) (Ok (Some (divergence G D p e)))))
       go true c = tt
       go false true = tt
       go false false = divergence_clear G D p e
@@ -219,7 +220,7 @@ module _ {X : Type 0} (figures : X → List Float) where
   told_fitting : (places have : ℕ) (r : Reading X) → ToldWithout figures r → ToldWithout figures (fitting places have r)
   told_fitting places have r h = go (ltb have places)
     where
-      go : (b : Bool) → ToldWithout figures (cond b (refused 13 none) r)
+      go : (b : Bool) → ToldWithout figures (cond b (refused 13 None) r)
       go true = tt
       go false = h
 
@@ -248,8 +249,8 @@ walk_told (walked ps k) h = values_without ps h
 walk_stats : (sequence_length : ℕ) (w : Walk) → ClearWalk w → ToldWithout statistics_of (stats_reading_of sequence_length w)
 walk_stats sequence_length (stopped n node) h = tt
 walk_stats sequence_length (walked ps k) h =
-    let none : ClearStats (no_stats sequence_length) = record { max_is = min_clear; min_is = max_clear; sum_is = zero_clear; squares_are = zero_clear } in
-    let c = stats_clear (no_stats sequence_length) ps none h in
+    let None : ClearStats (no_stats sequence_length) = record { max_is = min_clear; min_is = max_clear; sum_is = zero_clear; squares_are = zero_clear } in
+    let c = stats_clear (no_stats sequence_length) ps None h in
     (c.max_is.1, (c.min_is.1, (c.sum_is.1, (c.squares_are.1, tt))))
 
 module _ (s : Seen) (t : LentTables) (p : LentPriors) (rank : ℕ) (o : Output) where
@@ -257,15 +258,15 @@ module _ (s : Seen) (t : LentTables) (p : LentPriors) (rank : ℕ) (o : Output) 
   unfolding kl_reading
   one_told = checked figure_of (tables_refusal t.G t.D) (priors_refusal p.nodes p.children (layer_of p.floor)) s.form (of_listed t.G t.D p.nodes p.children (layer_of p.floor) rank (evidence_of rank s.listed)) (of_listed_lem (evidence_of rank s.listed))
     where
-      of_node : (d : NodeDivergence) → ClearNode d → ToldWithout figure_of (divergence_reading rank d)
-      of_node (Value x) h = (h.1, tt)
-      of_node NoPrior h = tt
-      of_node MissingChild h = tt
-      of_node PastTable h = tt
+      of_node : (d : (Result (Option Float) NodeReason)) → ClearNode d → ToldWithout figure_of (divergence_reading rank d)
+      of_node (Ok (Some x)) h = (h.1, tt)
+      of_node (Ok None) h = tt
+      of_node (Err MissingChild) h = tt
+      of_node (Err PastTable) h = tt
 
       of_listed_lem : (e : Option Counts) → ToldWithout figure_of (of_listed t.G t.D p.nodes p.children (layer_of p.floor) rank e)
-      of_listed_lem none = tt
-      of_listed_lem (some e) = of_node (node_divergence t.G t.D (prior_of p.nodes p.children (layer_of p.floor) rank) e) (node_clear t.G t.D (prior_of p.nodes p.children (layer_of p.floor) rank) e)
+      of_listed_lem None = tt
+      of_listed_lem (Some e) = of_node (node_divergence t.G t.D (prior_of p.nodes p.children (layer_of p.floor) rank) e) (node_clear t.G t.D (prior_of p.nodes p.children (layer_of p.floor) rank) e)
 
   abbrev walked_over : Walk
   walked_over = walk t.G t.D p.nodes p.children (layer_of p.floor) s.listed

@@ -1,6 +1,8 @@
 -- What each reading answers and leaves, from what it sees of a tracker and what it is lent beside it: one definition a reading, which its contract cites and of
 -- which the step of the claim over lists is made. Assumes nothing.
-use Rattle.std.specs.Prelude.{ℕ, List, Float}
+use Rattle.std.specs.Prelude.{ℕ, List, Float, Option, Result}
+use Rattle.priors.specs.declared.refusals.Refusal.{Refusal}
+use Rattle.priors.specs.declared.refusals.Reason.{Reason}
 use Rattle.priors.specs.Tables.{LentTables}
 use Rattle.priors.specs.Priors.{LentPriors, layer_of, Counts}
 use Rattle.book.specs.declared.trackers.Tracker.{Tracker}
@@ -39,10 +41,10 @@ pub record Telling (X : Type 0) : Type 0 where
   pub output : Output
 
 -- what the code's answer and the output afterwards come to
-abbrev pub vector_told : ProbVector → List ℕ → List Float → Telling VectorResult
+abbrev pub vector_told : Result (Option ProbVector) Reason → List ℕ → List Float → Telling VectorResult
 vector_told a addresses figures = record { answer = vector_answer a; output = lent_output addresses figures }
 
-abbrev pub all_kl_told : AllNodeKl → List ℕ → List Float → Telling AllResult
+abbrev pub all_kl_told : Result AllNodeKl Refusal → List ℕ → List Float → Telling AllResult
 all_kl_told a addresses figures = record { answer = all_answer a; output = lent_output addresses figures }
 
 -- ---- the readings

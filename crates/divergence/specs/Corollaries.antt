@@ -4,7 +4,7 @@
 -- alone: no reading reads index 0 of a table. Assumes nothing.
 use Rattle.std.specs.Prelude.{◌≡◌, ℕ, ◌*◌, ◌<◌, ◌≤◌, List, [], ◌∷◌, ◌++◌, length, ◌≢◌, Float}
 use mathlib.Core.List.{Permᴰ}
-use Rattle.std.proofs.Math.Option.{none, some, map}
+use Rattle.std.specs.Prelude.{None, Some, option_map}
 use Rattle.priors.specs.Tables.{lent_tables}
 use Rattle.priors.specs.Priors.{LentPriors, total}
 use Rattle.entries.specs.Keys.{end_key}
@@ -101,8 +101,8 @@ MemoryToTheEntry = (P : List Steps) → AllWhole P → AllRanks P → length P �
 abbrev pub TotalsAreVisits : Machine → ℕ → List Steps → Type 0
 TotalsAreVisits m W H =
     (node : ℕ)
-    → (HasRow (end_key node) (entries_of m) → map total (evidence_of node (nodes_of m.state m.book)) ≡ some (visits W H node))
-    × ((HasRow (end_key node) (entries_of m) → ⊥) → evidence_of node (nodes_of m.state m.book) ≡ none)
+    → (HasRow (end_key node) (entries_of m) → option_map total (evidence_of node (nodes_of m.state m.book)) ≡ Some (visits W H node))
+    × ((HasRow (end_key node) (entries_of m) → ⊥) → evidence_of node (nodes_of m.state m.book) ≡ None)
 
 -- whatever there was before: after any openings, one that is accepted and any calls, the book tells what the paths that list hold, in totals that are visits, and a
 -- reading answers by these, by the paths accepted since the last accepted opening and by that opening's window; what the paths that list need is at most 16,384; and what

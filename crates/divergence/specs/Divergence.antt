@@ -2,15 +2,14 @@
 -- operations rounded once each. Three departures from the textbook, as in goko: with a prior singleton of 0 the ending's term is dropped, though the textbook's is
 -- infinite; prior children outside the evidence enter no sum, though the textbook writes terms for them that cancel but for rounding; a result below 0 becomes 0.
 -- Assumes nothing.
-use Rattle.std.specs.Prelude.{ℕ, ◌+◌, Bool, true, false, cond, ◌||◌, List, [], ◌∷◌, length, nat_le, nat_lt, Float}
-use Rattle.std.proofs.Math.Option.{Option, none, some}
+use Rattle.std.specs.Prelude.{ℕ, ◌+◌, Bool, false, cond, ◌||◌, List, [], ◌∷◌, length, nat_le, nat_lt, Float, Option, None, Some, is_none, unwrap_or, Result, Ok, Err}
 use Rattle.std.specs.Float.Ieee.{lt}
 use Rattle.priors.specs.Rows.{Row, count_of}
 use Rattle.priors.specs.Tables.{table_at}
 use Rattle.priors.specs.Priors.{Counts, total}
 use Rattle.divergence.specs.declared.sums.Sums.{Sums}
-use Rattle.divergence.specs.declared.divergences.NodeDivergence.{NodeDivergence}
-use Rattle.divergence.specs.declared.divergences.NodeDivergence.TheVariants.{Value, NoPrior, MissingChild, PastTable}
+use Rattle.priors.specs.declared.refusals.NodeReason.{NodeReason}
+use Rattle.priors.specs.declared.refusals.NodeReason.TheVariants.{MissingChild, PastTable}
 use Rattle.divergence.specs.Numbers.{fadd, fsub, fmul, flt, zero64}
 
 -- the three sums start at 0
@@ -31,8 +30,7 @@ ending_term G D T s a e = cond (nat_lt 0 a) (term G D T s a e) s
 
 -- a child's count in the prior; one that is missing is refused before any term is made
 abbrev pub prior_count : Option ℕ → ℕ
-prior_count none = 0
-prior_count (some a) = a
+prior_count o = unwrap_or o 0
 
 -- a term for each evidence child, ascending
 unfoldable pub child_terms : List Float → List Float → ℕ → List Row → Sums → List Row → Sums
@@ -52,20 +50,15 @@ divergence G D p e =
     let T = total p in
     closed G T (T + total e) (child_terms G D T p.children (ending_term G D T no_sums p.ending e.ending) e.children)
 
--- the option has no value
-abbrev pub is_none : Option ℕ → Bool
-is_none none = true
-is_none (some c) = false
-
 -- some evidence child, zero count included, is not in the prior
 unfoldable pub lacks_child : List Row → List Row → Bool
 lacks_child prior [] = false
 lacks_child prior (e ∷ es) = is_none (count_of e.key prior) || lacks_child prior es
 
--- a listed node with evidence e: no prior; a missing child (14); U past the last table index (15); else its divergence
-unfoldable pub node_divergence : List Float → List Float → Option Counts → Counts → NodeDivergence
-node_divergence G D none e = NoPrior
-node_divergence G D (some p) e =
-    cond (lacks_child p.children e.children) MissingChild
-    (cond (nat_le (length G) (total p + total e)) PastTable
-    (Value (divergence G D p e)))
+-- a listed node with evidence e: none where it has no prior; a missing child (14); U past the last table index (15); else its divergence
+unfoldable pub node_divergence : List Float → List Float → Option Counts → Counts → Result (Option Float) NodeReason
+node_divergence G D None e = Ok None
+node_divergence G D (Some p) e =
+    cond (lacks_child p.children e.children) (Err MissingChild)
+    (cond (nat_le (length G) (total p + total e)) (Err PastTable)
+    (Ok (Some (divergence G D p e))))

@@ -3,8 +3,7 @@
 -- whole numbers and make floats of them where they enter a figure. Assumes nothing.
 use Rattle.std.specs.Prelude.{◌≡◌, ℕ, suc, ◌+◌, ◌-◌, ◌^◌, ◌<◌, ◌≤◌, min, Bool, true, false, cond, List, [], ◌∷◌, map, length, pos, ◌==◌, Float}
 use Prim.Native.Nat.{compare}
-use Rattle.std.proofs.Math.Option
-use Rattle.std.proofs.Math.Option.{Option, none, some}
+use Rattle.std.specs.Prelude.{Option, None, Some, option_map}
 use Rattle.std.specs.Float.{fin, binary64}
 use Rattle.std.specs.Float.Ieee.{round, lt}
 use Rattle.priors.specs.Rows.{Row, choose}
@@ -77,30 +76,30 @@ unfoldable pub divided : FloatCounts → Float → FloatCounts
 divided c t = record { singleton = fdiv c.singleton t; children = map (λ (r : FloatRow). float_row r.key (fdiv r.count t)) c.children }
 
 unfoldable pub float_vector : FloatCounts → Option FloatCounts
-float_vector c = let t = float_total c in cond (lt zero64 t) (some (divided c t)) none
+float_vector c = let t = float_total c in cond (lt zero64 t) (Some (divided c t)) None
 
 -- the tracker's `prob_vector`: the prior, if there is one, with the evidence, if there is any
 unfoldable pub goko_prob_vector : Option Counts → Option Counts → Option FloatCounts
-goko_prob_vector none evidence = none
-goko_prob_vector (some p) none = float_vector (float_counts p)
-goko_prob_vector (some p) (some e) = float_vector (add_evidence (float_counts p) (float_counts e))
+goko_prob_vector None evidence = None
+goko_prob_vector (Some p) None = float_vector (float_counts p)
+goko_prob_vector (Some p) (Some e) = float_vector (add_evidence (float_counts p) (float_counts e))
 
 -- the tracker's `evidence_prob_vector`
 unfoldable pub goko_evidence_vector : Option Counts → Option FloatCounts
-goko_evidence_vector none = none
-goko_evidence_vector (some e) = float_vector (float_counts e)
+goko_evidence_vector None = None
+goko_evidence_vector (Some e) = float_vector (float_counts e)
 
 -- ---- `posterior_kl_divergence`
 
 -- on with what there is; none where there is none
 abbrev pub where_found : {X Y : Type 0} → Option X → (X → Option Y) → Option Y
-where_found none f = none
-where_found (some x) f = f x
+where_found None f = None
+where_found (Some x) f = f x
 
 -- a child's count in `child_counts`, which ascend strictly; goko finds it by halving
 unfoldable pub float_of : ℕ → List FloatRow → Option Float
-float_of k [] = none
-float_of k (r ∷ rs) = cond (r.key == k) (some r.count) (float_of k rs)
+float_of k [] = None
+float_of k (r ∷ rs) = cond (r.key == k) (Some r.count) (float_of k rs)
 
 -- the three sums before any term
 abbrev pub no_floats : Sums
@@ -122,7 +121,7 @@ module _ (lnGamma digamma : Float → Float) where
 
   -- a term for each child of the evidence; none at one that the prior lacks
   unfoldable pub float_terms : Float → List FloatRow → Sums → List FloatRow → Option Sums
-  float_terms T prior s [] = some s
+  float_terms T prior s [] = Some s
   float_terms T prior s (e ∷ es) = where_found (float_of e.key prior) (λ a. float_terms T prior (float_term T s a e.count) es)
 
   unfoldable pub float_closed : Float → Float → Sums → Float
@@ -132,7 +131,7 @@ module _ (lnGamma digamma : Float → Float) where
   unfoldable pub goko_kl : FloatCounts → FloatCounts → Option Float
   goko_kl p e =
       let T = float_total p in
-      Option.map (float_closed T (fadd (float_total e) T)) (float_terms T p.children (float_ending T p.singleton e.singleton) e.children)
+      option_map (float_closed T (fadd (float_total e) T)) (float_terms T p.children (float_ending T p.singleton e.singleton) e.children)
 
   -- of a node that may lack a prior or evidence
   unfoldable pub goko_node_kl : Option Counts → Option Counts → Option Float
@@ -142,13 +141,13 @@ module _ (lnGamma digamma : Float → Float) where
 
   -- a node without a prior is passed over, with a line printed; where `posterior_kl_divergence` gives none goko panics, and there is no list
   abbrev pub goko_visited : ℕ → Option Counts → Counts → Option Divergences → Option Divergences
-  goko_visited node none e rest = Option.map (λ (d : Divergences). record { places = d.places; skipped = suc d.skipped }) rest
-  goko_visited node (some p) e rest =
+  goko_visited node None e rest = option_map (λ (d : Divergences). record { places = d.places; skipped = suc d.skipped }) rest
+  goko_visited node (Some p) e rest =
       where_found (goko_kl (float_counts p) (float_counts e))
-      (λ x. Option.map (λ (d : Divergences). record { places = record { address = node; value = x } ∷ d.places; skipped = d.skipped }) rest)
+      (λ x. option_map (λ (d : Divergences). record { places = record { address = node; value = x } ∷ d.places; skipped = d.skipped }) rest)
 
   unfoldable pub goko_all_kl : (ℕ → Option Counts) → List Node → Option Divergences
-  goko_all_kl prior [] = some (record { places = []; skipped = 0 })
+  goko_all_kl prior [] = Some (record { places = []; skipped = 0 })
   goko_all_kl prior (n ∷ ns) = goko_visited n.address (prior n.address) n.evidence (goko_all_kl prior ns)
 
 -- ---- `kl_div_stats`
@@ -190,8 +189,8 @@ Tabled f t = (k : ℕ) → 1 ≤ k → k < length t → f (flt k) ≡ table_at t
 
 -- what a vector of goko's tells, and what its none does
 abbrev pub vector_given : Output → Option FloatCounts → Telling VectorResult
-vector_given o none = record { answer = nothing; output = o }
-vector_given o (some v) = record {
+vector_given o None = record { answer = nothing; output = o }
+vector_given o (Some v) = record {
   answer = answered (record { places = length v.children; ending = v.singleton });
   output = lent_output
       (filled_addresses (map (λ (r : FloatRow). r.key) v.children) o.addresses)
@@ -199,8 +198,8 @@ vector_given o (some v) = record {
 }
 
 abbrev pub figure_given : Option Float → Reading Float
-figure_given none = nothing
-figure_given (some x) = answered x
+figure_given None = nothing
+figure_given (Some x) = answered x
 
 -- `kl_div_stats` of goko's list
 abbrev pub stats_given : Tracker → Divergences → Reading Statistics
@@ -221,8 +220,8 @@ GokoGivesTheSame =
     (reading_number (prob_asked s priors rank o).answer ≡ 0 → prob_asked s priors rank o ≡ vector_given o (goko_prob_vector (prior rank) evidence))
     × (reading_number (evidence_asked s rank o).answer ≡ 0 → evidence_asked s rank o ≡ vector_given o (goko_evidence_vector evidence))
     × (reading_number (kl_asked s tables priors rank) ≡ 0 → kl_asked s tables priors rank ≡ figure_given one)
-    × (reading_number (all_asked s tables priors o).answer ≡ 0 → (d : Divergences) × (list ≡ some d) × (all_asked s tables priors o ≡ all_telling o (answered d)))
-    × (reading_number (stats_asked s tables priors) ≡ 0 → (d : Divergences) × (list ≡ some d) × (stats_asked s tables priors ≡ stats_given t d))
-    × (reading_number (kl_asked s tables priors rank) ≡ 14 → one ≡ none)
-    × (reading_number (all_asked s tables priors o).answer ≡ 14 → list ≡ none)
-    × (reading_number (stats_asked s tables priors) ≡ 14 → list ≡ none)
+    × (reading_number (all_asked s tables priors o).answer ≡ 0 → (d : Divergences) × (list ≡ Some d) × (all_asked s tables priors o ≡ all_telling o (answered d)))
+    × (reading_number (stats_asked s tables priors) ≡ 0 → (d : Divergences) × (list ≡ Some d) × (stats_asked s tables priors ≡ stats_given t d))
+    × (reading_number (kl_asked s tables priors rank) ≡ 14 → one ≡ None)
+    × (reading_number (all_asked s tables priors o).answer ≡ 14 → list ≡ None)
+    × (reading_number (stats_asked s tables priors) ≡ 14 → list ≡ None)

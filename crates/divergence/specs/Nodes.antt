@@ -1,6 +1,6 @@
 -- A book's rows as nodes: each ending lists a node, and the children after it are its own. Assumes nothing.
 use Rattle.std.specs.Prelude.{ℕ, cond, List, [], ◌∷◌, ◌==◌}
-use Rattle.std.proofs.Math.Option.{Option, none, some}
+use Rattle.std.specs.Prelude.{Option, None, Some}
 use Rattle.priors.specs.Rows.{Row, row}
 use Rattle.priors.specs.Priors.{Counts}
 use Rattle.entries.specs.Keys.{node_of, kind_of, child_of}
@@ -30,5 +30,5 @@ listed_nodes rs = (spread rs).1
 
 -- the evidence of an address, if it is listed
 unfoldable pub evidence_of : ℕ → List Node → Option Counts
-evidence_of a [] = none
-evidence_of a (n ∷ ns) = cond (n.address == a) (some n.evidence) (evidence_of a ns)
+evidence_of a [] = None
+evidence_of a (n ∷ ns) = cond (n.address == a) (Some n.evidence) (evidence_of a ns)

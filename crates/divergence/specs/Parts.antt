@@ -1,11 +1,10 @@
 -- A part of a book's entries: those from one place up to another; the children at the front of rows, and the node whose ending stands at a place. Assumes nothing.
 use Rattle.std.specs.Prelude.{ℕ, suc, ◌+◌, ◌-◌, ◌*◌, cond, List, [], ◌∷◌, map, drop, ◌==◌}
-use Rattle.priors.specs.Address.{rank_at}
 use Rattle.priors.specs.Rows.{Row}
 use Rattle.priors.specs.Priors.{Counts}
 use Rattle.entries.specs.Limits.{entry_size}
-use Rattle.entries.specs.Keys.{kind_of}
-use Rattle.entries.specs.Entries.{rows, entry_count_at}
+use Rattle.entries.specs.Keys.{node_of, kind_of}
+use Rattle.entries.specs.Entries.{row_at, rows, entry_count_at}
 use Rattle.divergence.specs.Nodes.{Node, child_row, listed_nodes}
 
 -- the entries from the place `from` up to the place `to`
@@ -17,9 +16,9 @@ unfoldable pub leading : List Row → ℕ
 leading [] = 0
 leading (r ∷ rs) = cond (kind_of r.key == 0) 0 (suc (leading rs))
 
--- the rank of the entry at the place i
+-- the node of the entry at the place i, by rank
 abbrev pub node_at : List ℕ → ℕ → ℕ
-node_at book i = rank_at book (entry_size * i)
+node_at book i = node_of (row_at book (entry_size * i)).key
 
 -- the evidence of the node whose ending stands at the place i and whose children end before the place `to`
 abbrev pub evidence_at : List ℕ → ℕ → ℕ → Counts

@@ -2,7 +2,7 @@
 -- reading itself on a list of nodes. `form` is 9 where the tracker's form is broken, else 0; `layer` is the number of scales below the floor. Assumes nothing.
 use Rattle.std.specs.Prelude.{ℕ, ◌+◌, ◌*◌, ◌/◌, min, cond, List, [], ◌∷◌, ◌++◌, map, length, drop, nat_lt, Float}
 use mathlib.Core.List.{flat_map}
-use Rattle.std.proofs.Math.Option.{Option, none, some}
+use Rattle.std.specs.Prelude.{Option, None, Some, Result, Ok, Err}
 use Rattle.priors.specs.Address.{address_of, address_bytes}
 use Rattle.priors.specs.Rows.{keys}
 use Rattle.priors.specs.Tables.{tables_refusal}
@@ -11,8 +11,8 @@ use Rattle.book.specs.declared.trackers.Tracker.{Tracker}
 use Rattle.entries.specs.Entries.{rows}
 use Rattle.book.specs.Form.{in_form}
 use Rattle.book.specs.Figures.{in_window}
-use Rattle.divergence.specs.declared.divergences.NodeDivergence.{NodeDivergence}
-use Rattle.divergence.specs.declared.divergences.NodeDivergence.TheVariants.{Value, NoPrior, MissingChild, PastTable}
+use Rattle.priors.specs.declared.refusals.NodeReason.{NodeReason}
+use Rattle.priors.specs.declared.refusals.NodeReason.TheVariants.{MissingChild, PastTable}
 use Rattle.divergence.specs.declared.statistics.KLDivergenceStats.{KLDivergenceStats}
 use Rattle.divergence.specs.Nodes.{Node, listed_nodes, evidence_of}
 use Rattle.divergence.specs.Probability.{figures_of, prob_vector, evidence_prob_vector}
@@ -48,13 +48,13 @@ filled_figures values figures = values ++ drop (length values) figures
 
 -- 13: the output holds fewer places than the answer
 abbrev pub fitting : {X : Type 0} → ℕ → ℕ → Reading X → Reading X
-fitting places have r = cond (nat_lt have places) (refused 13 none) r
+fitting places have r = cond (nat_lt have places) (refused 13 None) r
 
 -- ---- `prob_vector` and `evidence_prob_vector`: the counts whose figures fill the output
 
 abbrev pub vector_reading : ℕ → Option Counts → Reading Counts
-vector_reading have none = nothing
-vector_reading have (some c) = fitting (length c.children) have (answered c)
+vector_reading have None = nothing
+vector_reading have (Some c) = fitting (length c.children) have (answered c)
 
 -- on a list of nodes
 unfoldable pub prob_reading : ℕ → List ℕ → List ℕ → ℕ → List Node → ℕ → ℕ → Reading Counts
@@ -73,15 +73,15 @@ vector_figures r figures = written (λ (c : Counts). filled_figures (figures_of 
 
 -- ---- `posterior_kl_divergence`
 
-abbrev pub divergence_reading : ℕ → NodeDivergence → Reading Float
-divergence_reading rank (Value x) = answered x
-divergence_reading rank NoPrior = nothing
-divergence_reading rank MissingChild = refused 14 (some (address_of rank))
-divergence_reading rank PastTable = refused 15 (some (address_of rank))
+abbrev pub divergence_reading : ℕ → Result (Option Float) NodeReason → Reading Float
+divergence_reading rank (Ok (Some x)) = answered x
+divergence_reading rank (Ok None) = nothing
+divergence_reading rank (Err MissingChild) = refused 14 (Some (address_of rank))
+divergence_reading rank (Err PastTable) = refused 15 (Some (address_of rank))
 
 abbrev pub of_listed : List Float → List Float → List ℕ → List ℕ → ℕ → ℕ → Option Counts → Reading Float
-of_listed G D nodes children layer rank none = nothing
-of_listed G D nodes children layer rank (some e) = divergence_reading rank (node_divergence G D (prior_of nodes children layer rank) e)
+of_listed G D nodes children layer rank None = nothing
+of_listed G D nodes children layer rank (Some e) = divergence_reading rank (node_divergence G D (prior_of nodes children layer rank) e)
 
 unfoldable pub kl_reading : ℕ → List Float → List Float → List ℕ → List ℕ → ℕ → List Node → ℕ → Reading Float
 kl_reading form G D nodes children layer ns rank =
@@ -94,8 +94,8 @@ pub record Divergences : Type 0 where
   pub skipped : ℕ
 
 abbrev pub has_prior : Option Counts → ℕ
-has_prior none = 0
-has_prior (some p) = 1
+has_prior None = 0
+has_prior (Some p) = 1
 
 -- how many listed nodes have a prior: the size of the answer, also where 14 or 15 would end it
 unfoldable pub with_prior : List ℕ → List ℕ → ℕ → List Node → ℕ
@@ -103,7 +103,7 @@ with_prior nodes children layer [] = 0
 with_prior nodes children layer (n ∷ ns) = has_prior (prior_of nodes children layer n.address) + with_prior nodes children layer ns
 
 abbrev pub walk_reading : Walk → Reading Divergences
-walk_reading (stopped n node) = refused n (some (address_of node))
+walk_reading (stopped n node) = refused n (Some (address_of node))
 walk_reading (walked ps k) = answered (record { places = ps; skipped = k })
 
 -- the reading past the checks before it
@@ -135,7 +135,7 @@ pub record Statistics : Type 0 where
   pub skipped : ℕ
 
 abbrev pub stats_reading_of : ℕ → Walk → Reading Statistics
-stats_reading_of sequence_length (stopped n node) = refused n (some (address_of node))
+stats_reading_of sequence_length (stopped n node) = refused n (Some (address_of node))
 stats_reading_of sequence_length (walked ps k) = answered (record { stats = stats_over (no_stats sequence_length) ps; skipped = k })
 
 unfoldable pub stats_reading : ℕ → List Float → List Float → List ℕ → List ℕ → ℕ → List Node → ℕ → Reading Statistics

@@ -1,12 +1,16 @@
 -- `all_node_kl` and `kl_div_stats`: the divergences of the listed nodes, ascending, and what is summed of those strictly above 1.0e-10. Assumes nothing.
-use Rattle.std.specs.Prelude.{ℕ, suc, ◌+◌, cond, List, [], ◌∷◌, Float}
+use Rattle.std.specs.Prelude.{ℕ, suc, ◌+◌, cond, List, [], ◌∷◌, Float, Option, None, Some, Result, Ok, Err}
 use Rattle.std.specs.Float.Ieee.{lt}
 use Rattle.priors.specs.Priors.{prior_of}
-use Rattle.divergence.specs.declared.divergences.NodeDivergence.{NodeDivergence}
-use Rattle.divergence.specs.declared.divergences.NodeDivergence.TheVariants.{Value, NoPrior, MissingChild, PastTable}
+use Rattle.priors.specs.declared.refusals.NodeReason.{NodeReason}
+use Rattle.priors.specs.declared.refusals.NodeReason.TheVariants.{MissingChild, PastTable}
+use Rattle.priors.specs.declared.tables.Tables.{Tables}
+use Rattle.priors.specs.declared.lookups.Priors.{Priors}
+use Rattle.book.specs.declared.form.Listing.{Listing}
 use Rattle.divergence.specs.declared.statistics.KLDivergenceStats.{KLDivergenceStats}
 use Rattle.divergence.specs.Numbers.{fadd, fmul, zero64, tiny64, min64, max64}
 use Rattle.divergence.specs.Nodes.{Node}
+use Rattle.divergence.specs.Parts.{nodes_from}
 use Rattle.divergence.specs.Divergence.{node_divergence}
 
 -- a place of the answer: a node and its divergence
@@ -28,16 +32,20 @@ abbrev pub skipping : Walk → Walk
 skipping (stopped n node) = stopped n node
 skipping (walked ps k) = walked ps (suc k)
 
-abbrev pub visited : ℕ → NodeDivergence → Walk → Walk
-visited node (Value x) rest = placed (record { address = node; value = x }) rest
-visited node NoPrior rest = skipping rest
-visited node MissingChild rest = stopped 14 node
-visited node PastTable rest = stopped 15 node
+abbrev pub visited : ℕ → Result (Option Float) NodeReason → Walk → Walk
+visited node (Ok (Some x)) rest = placed (record { address = node; value = x }) rest
+visited node (Ok None) rest = skipping rest
+visited node (Err MissingChild) rest = stopped 14 node
+visited node (Err PastTable) rest = stopped 15 node
 
 unfoldable pub walk : List Float → List Float → List ℕ → List ℕ → ℕ → List Node → Walk
 walk G D nodes children layer [] = walked [] 0
 walk G D nodes children layer (n ∷ ns) =
     visited n.address (node_divergence G D (prior_of nodes children layer n.address) n.evidence) (walk G D nodes children layer ns)
+
+-- over all nodes of a listing
+abbrev pub walk_over : Tables → Priors → Listing → Walk
+walk_over t p l = walk t.g.now t.d.now p.nodes.now p.children.now p.layer (nodes_from l.bytes.now 0 l.used)
 
 -- ---- the statistics
 

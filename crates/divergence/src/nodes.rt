@@ -1,40 +1,76 @@
-// A book's entries as nodes: an ending begins a node, and the children after it are its own.
-ghost use Rattle.std.specs.Prelude.{◌≡◌, ◌+◌, ◌*◌, ◌≤◌, length};
-ghost use Rattle.priors.specs.Priors.{count_sum};
-ghost use Rattle.entries.specs.Limits.{max_entries};
+// A walk over the listed nodes, ascending: an ending begins a node, and the children after it are its own.
+ghost use Rattle.std.specs.Prelude.{◌≡◌, ◌==◌, ◌+◌, ◌*◌, ◌≤◌, length};
+ghost use Rattle.entries.specs.Keys.{kind_of};
+ghost use Rattle.entries.specs.Entries.{row_at};
 ghost use Rattle.divergence.specs.Parts.{part, leading};
 
+use crate::evidence::Evidence;
+use book::form::Listing;
 use entries::limits::ENTRY_SIZE;
 use priors::words::read_u32;
 
-// The first place from i on whose entry is an ending, or `used`.
-pub fn children_end(book: &[u8], used: usize, i: usize) -> usize
-    requires i_le_used { i ≤ used }
-    requires used_in_bounds { 24 * used ≤ length book.now }
-    ensures { result ≡ i + leading (part book.now i used) }
+// An ending stands in the entry at the place i.
+fn is_ending(book: &[u8], i: usize) -> bool
+    requires { 24 * i + 24 ≤ length book.now }
+    ensures { result ≡ (kind_of (row_at book.now (24 * i)).key == 0) }
 {
-    let mut at = i;
-    while at < used {
-        if read_u32(book, ENTRY_SIZE * at + 8) == 0 {
-            return at;
-        }
-        at += 1;
-    }
-    at
+    read_u32(book, ENTRY_SIZE * i + 8) == 0
 }
 
-// The sum of the counts from the place `from` up to the place `to`.
-pub fn count_total(book: &[u8], from: usize, to: usize) -> u64
-    requires from_le_to { from ≤ to }
-    requires to_le_max_entries { to ≤ max_entries }
-    requires to_in_bounds { 24 * to ≤ length book.now }
-    ensures { result ≡ count_sum (part book.now from to) }
+// The first place from i on whose entry is an ending, or the end.
+pub fn children_end(listing: &Listing, i: usize) -> usize
+    requires { i ≤ listing.now.used }
+    ensures { result ≡ i + leading (part listing.now.bytes.now i listing.now.used) }
 {
-    let mut sum = 0;
-    let mut at = from;
-    while at < to {
-        sum += read_u32(book, ENTRY_SIZE * at + 20) as u64;
-        at += 1;
+    for at in i..listing.used {
+        if is_ending(listing.bytes, at) {
+            return at;
+        }
     }
-    sum
+    listing.used
+}
+
+// The nodes from a place on, where an ending stands unless it is the end.
+#[derive(Clone, Copy)]
+pub struct Nodes<'a> {
+    pub listing: Listing<'a>,
+    pub place: usize,
+    pub ghost within: { place ≤ listing.used },
+    pub ghost at_ending: { leading (part listing.bytes.now place listing.used) ≡ 0 },
+}
+
+impl<'a> Nodes<'a> {
+    ghost use Rattle.divergence.specs.Parts.{nodes_from};
+    ghost use Rattle.divergence.specs.Listing.{nodes_left, first_and};
+
+    // All listed nodes.
+    pub fn of(listing: &Listing<'a>) -> Self
+        ensures { nodes_left result ≡ nodes_from listing.now.bytes.now 0 listing.now.used }
+    {
+        Nodes {
+            listing: *listing,
+            place: children_end(listing, 0),
+        }
+    }
+
+    // The first of the nodes left, with its evidence, and the walk goes on after it.
+    pub fn next(&mut self) -> Option<Evidence<'a>>
+        ensures { nodes_left self.old ≡ first_and result (nodes_left self.new) }
+    {
+        let listing = self.listing;
+        let ending = self.place;
+        if ending == listing.used {
+            return None;
+        }
+        let end = children_end(&listing, ending + 1);
+        *self = Nodes {
+            listing,
+            place: end,
+        };
+        Some(Evidence {
+            bytes: listing.bytes,
+            ending,
+            end,
+        })
+    }
 }

@@ -1,13 +1,13 @@
 -- What the changes of bytes do to rows: an entry put in, and a count changed. Assumes nothing.
-use mathlib.Core.Path.{◌≡◌, refl, sym, ap, ap₂, ◌∙◌}
+use mathlib.Core.Path.{◌≡◌, refl, sym, ap, ap₂, subst, ◌∙◌}
 use mathlib.Core.Logic.{◌⊎◌, inl, inr, ⊎_elim}
-use Prim.Native.Nat.{ℕ, suc, ◌+◌, ◌-◌, ◌*◌, ◌^◌, ◌≤◌, ◌<◌}
+use Prim.Native.Nat.{ℕ, zero, suc, ◌+◌, ◌-◌, ◌*◌, ◌^◌, ◌≤◌, ◌<◌}
 use native.Mathlib.Omega.{arith}
-use mathlib.Core.List.{List, ◌∷◌, ◌++◌, append_assoc}
+use mathlib.Core.List.{List, [], ◌∷◌, ◌++◌, append_assoc}
 use lib.ListN.{length, get_or, take, drop, set, length-append, length-take, length-drop, take-append-drop, length-set}
 use lib.Seq.{take_at, drop_at, length-take-le, take-append-le, take-take, ext_get_or, get_or-set_same, get_or-set_other, drop-drop}
 use Rattle.priors.specs.Word.{word, word_bytes, store}
-use Rattle.priors.specs.Rows.{Row, row}
+use Rattle.priors.specs.Rows.{Row, row, keys, Ascends}
 use Rattle.priors.specs.Search.{blank}
 use Rattle.priors.specs.Address.{address_bytes}
 use Rattle.priors.proofs.Tests.{three}
@@ -155,6 +155,17 @@ module _ (s : List ℕ) (j v : ℕ) (h : 24 * j + 24 ≤ length s) where
       ∙ ap (drop (24 * n - b)) (drop_store s (24 * j + 20) (word_bytes v) b (omega arith) h)
       ∙ drop-drop (24 * n - b) b s
       ∙ ap (λ (k : ℕ). drop k s) at
+
+-- the keys stay
+keys_set : (rs : List Row) (j v : ℕ) → keys (set rs j (row (get_or rs j blank).key v)) ≡ keys rs
+keys_set [] j v = refl
+keys_set (r ∷ rs) zero v = refl
+keys_set (r ∷ rs) (suc j) v = ap (λ (l : List ℕ). r.key ∷ l) (keys_set rs j v)
+
+pub counted_ascends : (s : List ℕ) (n j v : ℕ) → Ascends 0 (keys (rows s n)) → 24 * n ≤ length s → j < n → v < 2 ^ 32 → Ascends 0 (keys (rows (with_count s j v) n))
+counted_ascends s n j v h fits l k =
+    let is : keys (rows (with_count s j v) n) ≡ keys (rows s n) = ap keys (rows_counted s j v (omega arith) k n l) ∙ keys_set (rows s n) j v in
+    subst (Ascends 0) (sym is) h
 
 -- the count of a row is the field in the bytes
 pub count_is : (s : List ℕ) (n j : ℕ) → j < n → (get_or (rows s n) j blank).count ≡ entry_count_at s j

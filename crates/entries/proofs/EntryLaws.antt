@@ -5,8 +5,6 @@ use Prim.Native.Nat.{ℕ, zero, suc, ◌+◌, ◌-◌, ◌*◌, ◌^◌, ◌≤�
 use native.Mathlib.Nat.{zero-add, suc-add, add-zero, add_assoc, not-suc-le-zero, le_of_suc-le-suc}
 use native.Mathlib.Omega.{arith}
 use mathlib.Core.List.{List, [], ◌∷◌, ◌++◌, append_assoc, append-nil}
-use mathlib.Core.Bool.{◌&&◌, ◌||◌}
-use lib.Dec.{ltb, eqb}
 use lib.ListN.{length, get_or, take, drop, length-append, length-drop}
 use lib.Seq.{drop_at, take_at, drop-append-le, drop-drop, get_or-drop}
 use Rattle.priors.specs.Word.{word, word_bytes}
@@ -14,10 +12,9 @@ use Rattle.priors.specs.Address.{rank_at, address_bytes}
 use Rattle.priors.specs.Rows.{Row, row}
 use Rattle.priors.proofs.Fields.{word_take, word_front, word_drop, word_bytes_lem}
 use Rattle.priors.proofs.Ranks.{Bytes, word_lt, rank_at_lt, rank_bytes, word_back, rank_forth}
-use Rattle.entries.specs.declared.keys.Key.{Key}
 use Rattle.entries.specs.Keys.{key_of, node_of, kind_of, child_of, key_value}
-use Rattle.entries.specs.Entries.{key_at, row_at, rows, row_bytes, bytes_of}
-use Rattle.entries.proofs.KeyLaws.{key_order, key_node, key_kind, key_child, key_parts, kind_lt, child_lt, node_lt}
+use Rattle.entries.specs.Entries.{fields_at, key_at, row_at, rows, row_bytes, bytes_of}
+use Rattle.entries.proofs.KeyLaws.{key_node, key_kind, key_child, key_parts, kind_lt, child_lt, node_lt}
 
 -- ---- what stands at a place
 
@@ -38,12 +35,10 @@ get_d_rows s (suc n) (suc i) d h =
     let e : 24 + 24 * i ≡ 24 * suc i = omega arith in
     get_d_rows (drop 24 s) n i d (le_of_suc-le-suc h) ∙ row_drop 24 s (24 * i) ∙ ap (row_at s) e
 
--- how the key of an entry stands to a key
-module _ (s : List ℕ) (bytes : Bytes s) (a : ℕ) (k : Key) (hk : k.kind < 2 ^ 32) (hc : k.child < 2 ^ 64) where
-  pub order_at : ltb (key_at s a) (key_value k)
-      ≡ ltb (rank_at s a) k.node || (eqb (rank_at s a) k.node && (ltb (word s (a + 8)) k.kind || (eqb (word s (a + 8)) k.kind && ltb (rank_at s (a + 12)) k.child)))
-  unfolding key_at key_value
-  order_at = key_order (rank_at s a) (word s (a + 8)) (rank_at s (a + 12)) k.node k.kind k.child (word_lt s bytes (a + 8)) (rank_at_lt s bytes (a + 12)) hk hc
+-- the key of an entry, as the code reads it
+pub key_read : (s : List ℕ) (a : ℕ) → key_value (fields_at s a) ≡ key_at s a
+unfolding key_at key_value
+key_read s a = refl
 
 -- ---- the entries of two parts
 

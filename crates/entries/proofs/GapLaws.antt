@@ -4,15 +4,12 @@ use Prim.Native.Nat.{ℕ, suc, ◌+◌, ◌-◌, ◌≤◌, ◌<◌}
 use native.Mathlib.Nat.{suc-add}
 use native.Mathlib.Omega.{arith}
 use mathlib.Core.List.{List, ◌∷◌, ◌++◌}
-use lib.ListN.{length, get_or, take, drop, set, take-append-drop, get_or-append}
-use lib.Seq.{slice_empty, slice-cons, take-suc, append_snoc, set_at, length-take-le, get_or-take}
+use lib.ListN.{length, get_or, take, drop, set, get_or-append}
+use lib.Seq.{slice-cons, take-suc, append_snoc, set_at, length-take-le, get_or-take}
 
 -- s, with what stands from i up to n moved 24 places up
 abbrev pub shifted : List ℕ → ℕ → ℕ → List ℕ
 shifted s i n = take (i + 24) s ++ (drop i (take n s) ++ drop (n + 24) s)
-
-pub shift_none : (s : List ℕ) (n : ℕ) → s ≡ shifted s n n
-shift_none s n = sym (rw (slice_empty n s) (take-append-drop (n + 24) s))
 
 shift_step : (s : List ℕ) (j n : ℕ) → j < n → n + 24 ≤ length s → set (shifted s (suc j) n) (j + 24) (get_or (shifted s (suc j) n) j 0) ≡ shifted s j n
 shift_step s j n h k =

@@ -1,18 +1,20 @@
--- The search by halving: the bracket around a key's place, and how it closes. The order enters only where an end moves. Assumes nothing.
+-- The search by halving: the entries below a key stand before all others, and where they end is the key's place. Assumes nothing.
 use mathlib.Core.Path.{◌≡◌, refl, sym, ap}
 use mathlib.Core.Logic.{⊎_elim}
 use mathlib.Core.Bool.{Bool, true, false, cond}
-use Prim.Native.Nat.{ℕ, zero, suc, ◌+◌, ◌*◌, ◌≤◌, ◌<◌, suc-le-suc}
-use native.Mathlib.Nat.{le_of_suc-le-suc, not-suc-le-zero, lt_trans, zero-lt-suc, eq-or-lt_of_le}
+use Prim.Native.Nat.{ℕ, zero, suc, ◌*◌, ◌≤◌, ◌<◌, zero-le, suc-le-suc}
+use native.Mathlib.Nat.{le_of_suc-le-suc, not-suc-le-zero, lt_trans, zero-lt-suc, eq-or-lt_of_le, le_refl}
 use native.Mathlib.Omega.{arith}
 use mathlib.Core.List.{List, [], ◌∷◌}
 use lib.Dec.{ltb, eqb}
 use lib.ListN.{length, get_or}
-use borrow.Author.Tests.{lt-ltb, le-ltb, ltb-true, eqb-true}
+use borrow.Author.Tests.{lt-ltb, le-ltb, ltb-true, ltb-false, eqb-true}
 use Rattle.priors.proofs.BelowLaws.{first_true, second_true}
 use Rattle.priors.specs.Rows.{Row, keys, Ascends}
+use Rattle.priors.specs.Below.{Falls, Parts}
 use Rattle.priors.specs.Search.{blank, place, holds}
-use Rattle.entries.specs.declared.entries.Found.TheVariants.{At, Missing}
+use Rattle.std.specs.Prelude.{Ok, Err, IfSome}
+use Rattle.std.specs.Result.{result_ok}
 use Rattle.entries.specs.Entries.{key_at, row_at, rows, find_in}
 use Rattle.entries.proofs.EntryLaws.{length_rows, get_d_rows}
 
@@ -40,11 +42,11 @@ place_is (x ∷ rs) k (suc r) h b a =
 
 -- ---- what the search answers
 
-pub found_at : (rs : List Row) (k r : ℕ) → place rs k ≡ r → holds rs r k ≡ true → find_in rs k ≡ At r
+pub found_at : (rs : List Row) (k r : ℕ) → place rs k ≡ r → holds rs r k ≡ true → find_in rs k ≡ Ok r
 unfolding find_in
 found_at rs k r e h = rw (e, h)
 
-pub found_missing : (rs : List Row) (k r : ℕ) → place rs k ≡ r → holds rs r k ≡ false → find_in rs k ≡ Missing r
+pub found_missing : (rs : List Row) (k r : ℕ) → place rs k ≡ r → holds rs r k ≡ false → find_in rs k ≡ Err r
 unfolding find_in
 found_missing rs k r e h = rw (e, h)
 
@@ -62,7 +64,7 @@ holds_past s n r k l =
     rw (le-ltb r (length (rows s n)) (omega arith))
 
 -- a key that stands at the place i is found there
-pub stands_found : (rs : List Row) (k i : ℕ) → Ascends 0 (keys rs) → holds rs i k ≡ true → find_in rs k ≡ At i
+pub stands_found : (rs : List Row) (k i : ℕ) → Ascends 0 (keys rs) → holds rs i k ≡ true → find_in rs k ≡ Ok i
 unfolding holds
 stands_found rs k i a h =
     let l : i < length rs = ltb-true i (length rs) (first_true (ltb i (length rs)) (eqb (get_or rs i blank).key k) h) in
@@ -70,16 +72,6 @@ stands_found rs k i a h =
     found_at rs k i (place_is rs k i (omega arith) (λ j m. rw (← e) (rising 0 rs a j i m l)) (λ m. omega arith)) h
 
 -- ---- halving
-
--- every key before lo is below k, and every one from hi on is not
-pub record Bracket (s : List ℕ) (n k lo hi : ℕ) : Type 0 where
-  pub lo_le : lo ≤ hi
-  pub hi_le : hi ≤ n
-  pub below : (i : ℕ) → i < lo → key_at s (24 * i) < k
-  pub above : (i : ℕ) → hi ≤ i → i < n → k ≤ key_at s (24 * i)
-
-pub bracket_start : (s : List ℕ) (n k : ℕ) → Bracket s n k 0 n
-bracket_start s n k = record { lo_le = omega arith; hi_le = omega arith; below = λ i l. absurd (not-suc-le-zero l); above = λ i l m. absurd (omega arith) }
 
 keys_rise : (s : List ℕ) (n : ℕ) → Ascends 0 (keys (rows s n)) → (p q : ℕ) → p < q → q < n → key_at s (24 * p) < key_at s (24 * q)
 unfolding row_at
@@ -89,32 +81,29 @@ keys_rise s n h p q l m =
     let lp : p < n = omega arith in
     rw (get_d_rows s n p blank lp, get_d_rows s n q blank m) at o
 
-module _ (s : List ℕ) (n k lo hi m : ℕ) (h : Ascends 0 (keys (rows s n))) (b : Bracket s n k lo hi) (lm : lo ≤ m) (mh : m < hi) where
-  pub bracket_up : key_at s (24 * m) < k → Bracket s n k (m + 1) hi
-  bracket_up t = record { lo_le = omega arith; hi_le = omega arith; below = before; above = b.above }
-    where
-      before : (i : ℕ) → i < m + 1 → key_at s (24 * i) < k
-      before i l =
-          let im : i ≤ m = omega arith in
-          ⊎_elim (λ e. rw e t) (λ q. lt_trans (keys_rise s n h i m q (omega arith)) t) (eq-or-lt_of_le im)
+module _ (s : List ℕ) (n k : ℕ) where
+  -- the entry at the place i is below k
+  abbrev pub is_below : ℕ → Bool
+  is_below i = ltb (key_at s (24 * i)) k
 
-  pub bracket_down : k ≤ key_at s (24 * m) → Bracket s n k lo m
-  bracket_down t = record { lo_le = lm; hi_le = omega arith; below = b.below; above = λ i l l'. ⊎_elim (λ e. rw (← e) t) (λ q. omega (arith, keys_rise s n h m i q l')) (eq-or-lt_of_le l) }
+  pub below_falls : Ascends 0 (keys (rows s n)) → Falls is_below n
+  below_falls h i j l m t =
+      ⊎_elim (λ e. rw e t) (λ q. lt-ltb (key_at s (24 * i)) k (lt_trans (keys_rise s n h i j q m) (ltb-true (key_at s (24 * j)) k t))) (eq-or-lt_of_le l)
 
--- the ends have met
-pub bracket_place : (s : List ℕ) (n k lo hi : ℕ) → Bracket s n k lo hi → hi ≤ lo → place (rows s n) k ≡ lo
-unfolding row_at
-bracket_place s n k lo hi b h =
-    let len : length (rows s n) ≡ n = length_rows s n in
-    place_is (rows s n) k lo (omega arith)
-    (λ i l. rw (get_d_rows s n i blank (omega arith)) (b.below i l))
-    (λ l. rw (get_d_rows s n lo blank (omega arith)) (b.above lo h (omega arith)))
+  -- where those below end, there is the place of k
+  pub parts_place : (r : ℕ) → Parts is_below 0 n r → place (rows s n) k ≡ r
+  unfolding row_at
+  parts_place r p =
+      let len : length (rows s n) ≡ n = length_rows s n in
+      place_is (rows s n) k r (omega (arith, p.le_to))
+      (λ i l. rw (get_d_rows s n i blank (omega (arith, p.le_to))) (ltb-true (key_at s (24 * i)) k (p.before i zero-le l)))
+      (λ l. rw (get_d_rows s n r blank (omega arith)) (ltb-false (key_at s (24 * r)) k (p.after r (le_refl r) (omega arith))))
 
 -- what is found stands there
-pub found_stands : (rs : List Row) (k i : ℕ) → find_in rs k ≡ At i → holds rs i k ≡ true
+pub some_stands : (rs : List Row) (k : ℕ) → IfSome (result_ok (find_in rs k)) (λ i. holds rs i k ≡ true)
 unfolding find_in
-found_stands rs k i f = go (holds rs (place rs k) k) refl f
+some_stands rs k = go (holds rs (place rs k) k) refl
   where
-    go : (b : Bool) → holds rs (place rs k) k ≡ b → cond b (At (place rs k)) (Missing (place rs k)) ≡ At i → holds rs i k ≡ true
-    go true h f = let q : place rs k ≡ i = cc in rw (← q) h
-    go false h f = let z : ◌≡◌ {A = ℕ} 0 1 = cc in absurd (omega arith)
+    go : (b : Bool) → holds rs (place rs k) k ≡ b → IfSome (result_ok (cond b (Ok (place rs k)) (Err (place rs k)))) (λ i. holds rs i k ≡ true)
+    go true h = h
+    go false h = tt

@@ -1,12 +1,10 @@
 -- A book's bytes as rows of (key, count), and rows as bytes: 24 an entry, node, kind, child address, count. Assumes nothing.
-use Rattle.std.specs.Prelude.{ℕ, zero, suc, ◌+◌, ◌*◌, ◌≤◌, ◌≡◌, List, [], ◌∷◌, ◌++◌, cond, length, take, drop}
+use Rattle.std.specs.Prelude.{ℕ, zero, suc, ◌+◌, ◌*◌, ◌≤◌, ◌≡◌, List, [], ◌∷◌, ◌++◌, cond, length, take, drop, Result, Ok, Err}
 use Rattle.priors.specs.Word.{word, word_bytes, store}
 use Rattle.priors.specs.Address.{rank_at, address_bytes}
 use Rattle.priors.specs.Rows.{Row, row}
 use Rattle.priors.specs.Search.{place, holds}
 use Rattle.entries.specs.declared.keys.Key.{Key}
-use Rattle.entries.specs.declared.entries.Found.{Found}
-use Rattle.entries.specs.declared.entries.Found.TheVariants.{At, Missing}
 use Rattle.entries.specs.Limits.{entry_size}
 use Rattle.entries.specs.Keys.{key_of, node_of, kind_of, child_of}
 
@@ -41,8 +39,8 @@ CountsUpTo m (r ∷ rs) = (r.count ≤ m) × CountsUpTo m rs
 -- ---- finding a key
 
 -- the place of the row with the key k, or the place where it would go
-unfoldable pub find_in : List Row → ℕ → Found
-find_in rs k = cond (holds rs (place rs k) k) (At (place rs k)) (Missing (place rs k))
+unfoldable pub find_in : List Row → ℕ → Result ℕ ℕ
+find_in rs k = cond (holds rs (place rs k) k) (Ok (place rs k)) (Err (place rs k))
 
 -- ---- changing bytes
 

@@ -1,61 +1,55 @@
-// What an add does to the rows of a book, key by key: a key is listed, counts one more, or counts one less. The entries must ascend;
-// room is asked for only where an entry comes in.
-ghost use Rattle.std.specs.Prelude.{◌-◌, ◌*◌, ◌^◌, ◌≤◌, length};
-ghost use Rattle.priors.specs.Rows.{keys, Ascends, touch, bump, fade};
+// What an add does to the rows of a book, key by key: a key is listed, counts one more, or counts one less. Room is asked for only
+// where an entry comes in.
+ghost use Rattle.std.specs.Prelude.{◌-◌, ◌*◌, ◌^◌, ◌≤◌, ◌≡◌, length};
+ghost use Rattle.priors.specs.Rows.{touch, bump, fade};
 ghost use Rattle.entries.specs.Keys.{key_value};
 ghost use Rattle.entries.specs.Entries.{rows, Rewritten, CountsUpTo};
 
-use crate::entries;
-use crate::entries::{Found, find, insert};
-use crate::hints::find_at;
+use crate::entries::EntriesMut;
+use crate::hints::Hints;
 use crate::keys::Key;
 
-// Lists a key: a missing one comes in with 0. The result is the number of entries.
-pub fn touch(book: &mut [u8], used: usize, key: Key) -> usize
-    requires used_in_bounds { 24 * used ≤ length book.old }
-    requires ascends { Ascends 0 (keys (rows book.old used)) }
-    requires used_in_bounds_2 { 24 * length (touch (key_value key) (rows book.old used)) ≤ length book.old }
-    ensures { Rewritten book.old book.new result (touch (key_value key) (rows book.old used)) }
-{
-    match find(book, used, key) {
-        Found::At(_) => used,
-        Found::Missing(i) => {
-            insert(book, used, i, key, 0);
-            used + 1
+impl EntriesMut<'_> {
+    // Lists a key: a missing one comes in with 0.
+    #[tactic(auto, using(crate::proofs::BookLaws::missing_length, crate::proofs::BookLaws::found_touched))]
+    pub fn touch(&mut self, key: Key)
+        requires { 24 * length (touch (key_value key) (rows self.old.bytes.now self.old.used)) ≤ length self.old.bytes.now }
+        ensures same_reference { self.new.bytes.ghost_name ≡ self.old.bytes.ghost_name }
+        ensures len { length self.new.bytes.now ≡ length self.old.bytes.now }
+        ensures rewritten { Rewritten self.old.bytes.now self.new.bytes.now self.new.used (touch (key_value key) (rows self.old.bytes.now self.old.used)) }
+    {
+        if let Err(i) = self.as_ref().find(key) {
+            self.insert(i, key, 0);
         }
     }
-}
 
-// Counts a key one more: a missing one comes in with 1. The result is the number of entries.
-pub fn note(book: &mut [u8], used: usize, key: Key) -> usize
-    requires used_in_bounds { 24 * used ≤ length book.old }
-    requires ascends { Ascends 0 (keys (rows book.old used)) }
-    requires counts_up_to { CountsUpTo (2 ^ 32 - 2) (rows book.old used) }
-    requires used_in_bounds_2 { 24 * length (bump (key_value key) (rows book.old used)) ≤ length book.old }
-    ensures { Rewritten book.old book.new result (bump (key_value key) (rows book.old used)) }
-{
-    match find(book, used, key) {
-        Found::At(i) => {
-            entries::bump(book, i);
-            used
-        }
-        Found::Missing(i) => {
-            insert(book, used, i, key, 1);
-            used + 1
+    // Counts a key one more: a missing one comes in with 1.
+    #[tactic(auto, using(crate::proofs::BookLaws::found_lt, crate::proofs::BookLaws::missing_length))]
+    pub fn note(&mut self, key: Key)
+        requires counts_up_to { CountsUpTo (2 ^ 32 - 2) (rows self.old.bytes.now self.old.used) }
+        requires room { 24 * length (bump (key_value key) (rows self.old.bytes.now self.old.used)) ≤ length self.old.bytes.now }
+        ensures same_reference { self.new.bytes.ghost_name ≡ self.old.bytes.ghost_name }
+        ensures len { length self.new.bytes.now ≡ length self.old.bytes.now }
+        ensures rewritten { Rewritten self.old.bytes.now self.new.bytes.now self.new.used (bump (key_value key) (rows self.old.bytes.now self.old.used)) }
+    {
+        match self.as_ref().find(key) {
+            Ok(i) => self.bump_at(i),
+            Err(i) => self.insert(i, key, 1),
         }
     }
-}
 
-// Counts a key one less, and never below 0: a missing one is passed over.
-pub fn fade_key(book: &mut [u8], used: usize, key: Key, place: usize, hints: &mut [u16])
-    requires used_in_bounds { 24 * used ≤ length book.old }
-    requires ascends { Ascends 0 (keys (rows book.old used)) }
-    ensures { Rewritten book.old book.new used (fade (key_value key) (rows book.old used)) }
-{
-    match find_at(book, used, key, place, hints) {
-        Found::At(i) => {
-            entries::fade(book, i);
+    // Counts a key one less, and never below 0: a missing one is passed over. It may stand at `place`.
+    #[tactic(auto, using(crate::proofs::BookLaws::found_lt, crate::proofs::BookLaws::missing_faded))]
+    pub fn fade(&mut self, key: Key, place: usize, hints: &mut Hints)
+        ensures same_reference { self.new.bytes.ghost_name ≡ self.old.bytes.ghost_name }
+        ensures len { length self.new.bytes.now ≡ length self.old.bytes.now }
+        ensures rewritten { Rewritten self.old.bytes.now self.new.bytes.now self.new.used (fade (key_value key) (rows self.old.bytes.now self.old.used)) }
+        ensures used { self.new.used ≡ self.old.used }
+    {
+        let entries = self.as_ref();
+        if let Ok(i) = hints.find_at(&entries, key, place) {
+            let count = entries.count(i);
+            self.set_count(i, count.saturating_sub(1));
         }
-        Found::Missing(_) => {}
     }
 }

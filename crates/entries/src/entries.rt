@@ -1,21 +1,125 @@
-// An entry is 24 bytes: node, kind, child address, count. Finding a key asks that the entries ascend; whatever changes bytes here
-// asks for places alone, so it can be used on a part of a larger block.
-ghost use Rattle.std.specs.Prelude.{◌≡◌, ◌+◌, ◌-◌, ◌*◌, ◌^◌, ◌≤◌, ◌<◌, ◌++◌, ltb, eqb, length, take, drop};
+// An entry is 24 bytes: node, kind, child address, count. A book's entries are the used ones at its front, and they ascend. The changes
+// here are by place; those by key stand in changes.rt.
+ghost use Rattle.std.specs.Prelude.{◌≡◌, ◌+◌, ◌-◌, ◌*◌, ◌^◌, ◌≤◌, ◌<◌, ◌++◌, ltb, length, take, drop};
 ghost use Rattle.priors.specs.Word.{store};
-ghost use Rattle.priors.specs.Rows.{row, keys, Ascends};
+ghost use Rattle.priors.specs.Rows.{row, keys, Ascends, change};
+ghost use Rattle.priors.specs.Search.{holds};
 ghost use Rattle.entries.specs.Keys.{key_value};
-ghost use Rattle.entries.specs.Entries.{fields_at, key_at, rows, row_bytes, find_in, with_entry, entry_count_at, with_count};
+ghost use Rattle.entries.specs.Entries.{fields_at, key_at, rows, row_bytes, find_in, entry_count_at, with_count, with_entry, Rewritten};
+ghost use Rattle.entries.specs.Ascending.{Ascends-prop};
 
-use crate::keys::{Key, same_key};
+use crate::keys::Key;
 use crate::limits::ENTRY_SIZE;
 use priors::addresses::{rank_at, write_rank};
+use priors::places::partition_point;
 use priors::words::{read_u32, write_u32};
 
-// Where a key stands: at a place, or missing, with the place where it would go.
+// The used entries of a book, to be read. The C interface lends all its bytes, and the number of used entries beside them.
 #[derive(Clone, Copy)]
-pub enum Found {
-    At(usize),
-    Missing(usize),
+pub struct Entries<'a> {
+    pub bytes: &'a [u8],
+    pub used: usize,
+    pub ghost in_bounds: { 24 * used ≤ length bytes.now },
+    pub ghost ascends: { Ascends 0 (keys (rows bytes.now used)) } by { Ascends-prop 0 (keys (rows bytes.now used)) },
+}
+
+// The same, to be changed.
+#[derive(Drop)]
+pub struct EntriesMut<'a> {
+    pub bytes: &'a mut [u8],
+    pub used: usize,
+    pub ghost in_bounds: { 24 * used ≤ length bytes.now },
+    pub ghost ascends: { Ascends 0 (keys (rows bytes.now used)) } by { Ascends-prop 0 (keys (rows bytes.now used)) },
+}
+
+impl Entries<'_> {
+    // The key of the entry at the place i.
+    pub fn key(&self, i: usize) -> Key
+        requires { i < self.now.used }
+        ensures { result ≡ fields_at self.now.bytes.now (24 * i) }
+    {
+        key_of(self.bytes, ENTRY_SIZE * i)
+    }
+
+    // The count of the entry at the place i.
+    pub fn count(&self, i: usize) -> u32
+        requires { i < self.now.used }
+        ensures { result ≡ entry_count_at self.now.bytes.now i }
+    {
+        read_u32(self.bytes, ENTRY_SIZE * i + 20)
+    }
+
+    // The place i is used and its entry has the given key.
+    pub fn holds_at(&self, i: usize, key: Key) -> bool
+        ensures { result ≡ holds (rows self.now.bytes.now self.now.used) i (key_value key) }
+    {
+        i < self.used && self.key(i) == key
+    }
+
+    // The entry at the place i has a key below the given one.
+    fn is_below(&self, i: usize, key: Key) -> bool
+        requires { i < self.now.used }
+        ensures { result ≡ ltb (key_at self.now.bytes.now (24 * i)) (key_value key) }
+    {
+        self.key(i) < key
+    }
+
+    // Finds a key by halving: its place, or where it is missing the place where it would go.
+    pub fn find(&self, key: Key) -> Result<usize, usize>
+        ensures { result ≡ find_in (rows self.now.bytes.now self.now.used) (key_value key) }
+    {
+        let i = partition_point(0, self.used, |i| self.is_below(i, key));
+        if self.holds_at(i, key) { Ok(i) } else { Err(i) }
+    }
+}
+
+impl EntriesMut<'_> {
+    pub fn as_ref(&self) -> Entries<'_>
+        ensures bytes { result.bytes.now ≡ self.now.bytes.now }
+        ensures used { result.used ≡ self.now.used }
+    {
+        Entries {
+            bytes: self.bytes,
+            used: self.used,
+        }
+    }
+
+    // Puts an entry in at the place i, where its key would go, and moves those from there on one place up.
+    pub fn insert(&mut self, i: usize, key: Key, count: u32)
+        requires missing { find_in (rows self.old.bytes.now self.old.used) (key_value key) ≡ Err i }
+        requires room { 24 * self.old.used + 24 ≤ length self.old.bytes.now }
+        ensures same_reference { self.new.bytes.ghost_name ≡ self.old.bytes.ghost_name }
+        ensures len { length self.new.bytes.now ≡ length self.old.bytes.now }
+        ensures rewritten { Rewritten self.old.bytes.now self.new.bytes.now self.new.used (change (Some count) (λ c. c) (key_value key) (rows self.old.bytes.now self.old.used)) }
+    {
+        put_in(self.bytes, self.used, i, key, count);
+        self.used += 1;
+    }
+
+    // Adds 1 to the count of the entry at the place i.
+    pub fn bump_at(&mut self, i: usize)
+        requires in_use { i < self.old.used }
+        requires fits { entry_count_at self.old.bytes.now i + 1 < 2 ^ 32 }
+        ensures same_reference { self.new.bytes.ghost_name ≡ self.old.bytes.ghost_name }
+        ensures len { length self.new.bytes.now ≡ length self.old.bytes.now }
+        ensures bytes { self.new.bytes.now ≡ with_count self.old.bytes.now i (entry_count_at self.old.bytes.now i + 1) }
+        ensures used { self.new.used ≡ self.old.used }
+    {
+        let count = self.as_ref().count(i);
+        self.set_count(i, count + 1);
+    }
+
+    // Puts another count into the entry at the place i.
+    #[tactic(auto, using(crate::proofs::ChangeLaws::counted_ascends), unfolding(crate::specs::Entries::with_count))]
+    pub(crate) fn set_count(&mut self, i: usize, count: u32)
+        requires { i < self.old.used }
+        ensures same_reference { self.new.bytes.ghost_name ≡ self.old.bytes.ghost_name }
+        ensures len { length self.new.bytes.now ≡ length self.old.bytes.now }
+        ensures bytes { self.new.bytes.now ≡ with_count self.old.bytes.now i count }
+        ensures used { self.new.used ≡ self.old.used }
+    {
+        write_u32(self.bytes, ENTRY_SIZE * i + 20, count);
+    }
 }
 
 // The key of the entry from `at`.
@@ -30,75 +134,6 @@ pub fn key_of(s: &[u8], at: usize) -> Key
     }
 }
 
-// The entry at the place i has a key below the given one.
-fn below(book: &[u8], i: usize, key: Key) -> bool
-    requires { 24 * i + 24 ≤ length book.now }
-    ensures { result ≡ ltb (key_at book.now (24 * i)) (key_value key) }
-{
-    let at = ENTRY_SIZE * i;
-    let node = rank_at(book, at);
-    if node < key.node {
-        return true;
-    }
-    if key.node < node {
-        return false;
-    }
-    let kind = read_u32(book, at + 8);
-    if kind < key.kind {
-        return true;
-    }
-    if key.kind < kind {
-        return false;
-    }
-    let child = rank_at(book, at + 12);
-    child < key.child
-}
-
-// The entry at the place i has the given key.
-pub fn same(book: &[u8], i: usize, key: Key) -> bool
-    requires { 24 * i + 24 ≤ length book.now }
-    ensures { result ≡ eqb (key_at book.now (24 * i)) (key_value key) }
-{
-    same_key(key_of(book, ENTRY_SIZE * i), key)
-}
-
-// Finds a key by halving.
-pub fn find(book: &[u8], used: usize, key: Key) -> Found
-    requires used_in_bounds { 24 * used ≤ length book.now }
-    requires ascends { Ascends 0 (keys (rows book.now used)) }
-    ensures { result ≡ find_in (rows book.now used) (key_value key) }
-{
-    let mut low = 0;
-    let mut high = used;
-    while low < high {
-        let middle = low + (high - low) / 2;
-        if below(book, middle, key) {
-            low = middle + 1;
-        } else {
-            high = middle;
-        }
-    }
-    if low < used {
-        if same(book, low, key) {
-            return Found::At(low);
-        }
-    }
-    Found::Missing(low)
-}
-
-// Moves the bytes of s from `from` up to `to` an entry's size up.
-fn open_gap(s: &mut [u8], from: usize, to: usize)
-    requires from_le_to { from ≤ to }
-    requires to_in_bounds { to + 24 ≤ length s.old }
-    ensures { s.new ≡ take (from + 24) s.old ++ (drop from (take to s.old) ++ drop (to + 24) s.old) }
-{
-    let mut i = to;
-    while from < i {
-        i -= 1;
-        s[i + ENTRY_SIZE] = s[i];
-    }
-}
-
 // Writes an entry from `at`.
 pub fn put_entry(s: &mut [u8], at: usize, key: Key, count: u32)
     requires { at + 24 ≤ length s.old }
@@ -110,40 +145,24 @@ pub fn put_entry(s: &mut [u8], at: usize, key: Key, count: u32)
     write_u32(s, at + 20, count);
 }
 
-// Puts an entry in at the place i and moves those from there up to `used` one place up.
-pub fn insert(book: &mut [u8], used: usize, i: usize, key: Key, count: u32)
-    requires i_le_used { i ≤ used }
-    requires used_in_bounds { 24 * used + 24 ≤ length book.old }
-    ensures { book.new ≡ with_entry book.old used i (row (key_value key) count) }
+// Puts an entry in at the place i of n entries and moves those from there on one place up.
+fn put_in(s: &mut [u8], n: usize, i: usize, key: Key, count: u32)
+    requires i_le_n { i ≤ n }
+    requires room { 24 * n + 24 ≤ length s.old }
+    ensures { s.new ≡ with_entry s.old n i (row (key_value key) count) }
 {
-    open_gap(book, ENTRY_SIZE * i, ENTRY_SIZE * used);
-    put_entry(book, ENTRY_SIZE * i, key, count);
+    open_gap(s, ENTRY_SIZE * i, ENTRY_SIZE * n);
+    put_entry(s, ENTRY_SIZE * i, key, count);
 }
 
-// Adds 1 to the count of the entry at the place i.
-pub fn bump(book: &mut [u8], i: usize)
-    requires i_in_bounds { 24 * i + 24 ≤ length book.old }
-    requires i_bound { entry_count_at book.old i + 1 < 2 ^ 32 }
-    ensures { book.new ≡ with_count book.old i (entry_count_at book.old i + 1) }
+// Moves the bytes of s from `from` up to `to` an entry's size up. One by one: the C interface promises that the archive wants memset
+// alone, and `copy_within` would want memmove.
+fn open_gap(s: &mut [u8], from: usize, to: usize)
+    requires from_le_to { from ≤ to }
+    requires to_in_bounds { to + 24 ≤ length s.old }
+    ensures { s.new ≡ take (from + 24) s.old ++ (drop from (take to s.old) ++ drop (to + 24) s.old) }
 {
-    let at = ENTRY_SIZE * i + 20;
-    let count = read_u32(book, at);
-    write_u32(book, at, count + 1);
-}
-
-// n - 1, and 0 for 0.
-fn less(n: u32) -> u32
-    ensures { result ≡ n - 1 }
-{
-    if n == 0 { 0 } else { n - 1 }
-}
-
-// Takes 1 from the count of the entry at the place i, if there is any.
-pub fn fade(book: &mut [u8], i: usize)
-    requires { 24 * i + 24 ≤ length book.old }
-    ensures { book.new ≡ with_count book.old i (entry_count_at book.old i - 1) }
-{
-    let at = ENTRY_SIZE * i + 20;
-    let count = read_u32(book, at);
-    write_u32(book, at, less(count));
+    for i in (from..to).rev() {
+        s[i + ENTRY_SIZE] = s[i];
+    }
 }

@@ -1,14 +1,12 @@
 // Hints: places where a key stood when it was last looked up, in a table by a hash of the key. A hint is looked at before it is believed, so
 // the table may hold anything, and no contract speaks of what it holds.
-ghost use Rattle.std.specs.Prelude.{◌≡◌, true, ◌*◌, ◌^◌, ◌≤◌, ◌<◌, length};
-ghost use Rattle.priors.specs.Rows.{keys, Ascends};
+ghost use Rattle.std.specs.Prelude.{◌≡◌, true, ◌^◌, ◌≤◌, ◌<◌, IfSome, length};
 ghost use Rattle.priors.specs.Search.{holds};
 ghost use Rattle.entries.specs.Keys.{key_value};
 ghost use Rattle.entries.specs.Entries.{rows, find_in};
 
-use crate::entries::{Found, find, key_of, same};
+use crate::entries::Entries;
 use crate::keys::Key;
-use crate::limits::ENTRY_SIZE;
 
 // Slots of a table. Behind them lie rows of 16, one for each path of the window and one more: where the first keys of that path stood.
 pub const SLOTS: usize = 32768;
@@ -17,21 +15,13 @@ pub const ROW: usize = 16;
 
 const HALF: u64 = 4294967296;
 
-// The place i is used and its entry has the given key.
-pub fn stands_at(book: &[u8], used: usize, i: usize, key: Key) -> bool
-    requires { 24 * used ≤ length book.now }
-    ensures { result ≡ holds (rows book.now used) i (key_value key) }
-{
-    if used <= i {
-        return false;
-    }
-    same(book, i, key)
-}
+// Bytes of a list of paths from which on it pays to note where all entries stand: 100 places.
+const MANY: usize = 51600;
 
-pub fn wide(x: u16) -> usize
-    ensures { result ≡ x }
-{
-    x as usize
+// A table of fewer than 32,768 slots is none.
+#[derive(Drop)]
+pub struct Hints<'a> {
+    table: &'a mut [u16],
 }
 
 // A sum that tells keys apart, more or less.
@@ -56,92 +46,6 @@ fn second_slot(sum: u64) -> usize
     (sum / 4 % 32768) as usize
 }
 
-// Notes that a key with this sum stands at the place i: in its first slot, or in its second where the first is another key's own and sound.
-fn note_place(book: &[u8], used: usize, sum: u64, i: usize, hints: &mut [u16])
-    requires { 24 * used ≤ length book.now }
-{
-    if 65535 < i {
-        return;
-    }
-    if hints.len() < SLOTS {
-        return;
-    }
-    let first = first_slot(sum);
-    let other = wide(hints[first]);
-    if other < used {
-        let owner = mixed(key_of(book, ENTRY_SIZE * other));
-        if first_slot(owner) == first {
-            let second = second_slot(sum);
-            hints[second] = i as u16;
-            return;
-        }
-    }
-    hints[first] = i as u16;
-}
-
-// Notes one place in a fresh table: in the first slot of its key, or in the second where the first is in use.
-fn note_first(hints: &mut [u16], sum: u64, i: usize) {
-    if hints.len() < SLOTS {
-        return;
-    }
-    if 65535 < i {
-        return;
-    }
-    let first = first_slot(sum);
-    if hints[first] == 0 {
-        hints[first] = i as u16;
-        return;
-    }
-    let second = second_slot(sum);
-    hints[second] = i as u16;
-}
-
-// Bytes of a list of paths from which on it pays to note where all entries stand: 100 places.
-const MANY: usize = 51600;
-
-// Notes the places of all entries in a fresh table, for a list of paths of n bytes that is long enough.
-pub fn note_all(book: &[u8], used: usize, hints: &mut [u16], n: usize)
-    requires { 24 * used ≤ length book.now }
-{
-    if n < MANY {
-        return;
-    }
-    let mut i = 0;
-    while i < used {
-        note_first(hints, mixed(key_of(book, ENTRY_SIZE * i)), i);
-        i += 1;
-    }
-}
-
-// Finds a key: at a hinted place, or by halving, and then its place is noted. A table of fewer than 32,768 slots is none.
-pub fn find_hinted(book: &[u8], used: usize, key: Key, hints: &mut [u16]) -> Found
-    requires used_in_bounds { 24 * used ≤ length book.now }
-    requires ascends { Ascends 0 (keys (rows book.now used)) }
-    ensures { result ≡ find_in (rows book.now used) (key_value key) }
-{
-    if hints.len() < SLOTS {
-        return find(book, used, key);
-    }
-    let sum = mixed(key);
-    let first = first_slot(sum);
-    let at = wide(hints[first]);
-    if stands_at(book, used, at, key) {
-        return Found::At(at);
-    }
-    let second = second_slot(sum);
-    let then = wide(hints[second]);
-    if stands_at(book, used, then, key) {
-        return Found::At(then);
-    }
-    match find(book, used, key) {
-        Found::At(i) => {
-            note_place(book, used, sum, i, hints);
-            Found::At(i)
-        }
-        Found::Missing(i) => Found::Missing(i),
-    }
-}
-
 // The row of the path numbered k.
 pub fn row_of(window: u32, k: usize) -> usize
     ensures { result < 2 ^ 40 }
@@ -149,52 +53,102 @@ pub fn row_of(window: u32, k: usize) -> usize
     SLOTS + ROW * (k % (window as usize + 1))
 }
 
-// The hint for the key numbered i of a path, from its row; anything where there is no such row.
-pub fn told(hints: &[u16], row: usize, i: usize) -> usize {
-    if hints.len() <= row {
-        return 0;
+impl<'a> Hints<'a> {
+    pub fn over(table: &'a mut [u16]) -> Self {
+        Hints { table }
     }
-    if hints.len() - row <= i {
-        return 0;
-    }
-    wide(hints[row + i])
-}
 
-// Notes in its row where the first keys of a path stand.
-pub fn note_row(hints: &mut [u16], row: usize, places: &[u16; 64]) {
-    if hints.len() < ROW {
-        return;
+    // Notes the places of all entries in a fresh table, for a list of paths of n bytes that is long enough: in the first slot of a key,
+    // or in the second where the first is in use.
+    pub fn note_all(&mut self, entries: &Entries, n: usize) {
+        if n < MANY || self.table.len() < SLOTS {
+            return;
+        }
+        let table = &mut *self.table;
+        for i in 0..entries.used {
+            let Ok(place) = u16::try_from(i) else {
+                return;
+            };
+            let sum = mixed(entries.key(i));
+            let first = first_slot(sum);
+            let slot = if table[first] == 0 {
+                first
+            } else {
+                second_slot(sum)
+            };
+            table[slot] = place;
+        }
     }
-    if hints.len() - ROW < row {
-        return;
-    }
-    let mut i = 0;
-    while i < ROW {
-        hints[row + i] = places[i];
-        i += 1;
-    }
-}
 
-// Finds a key: at the given place, or as above.
-pub fn find_at(book: &[u8], used: usize, key: Key, i: usize, hints: &mut [u16]) -> Found
-    requires used_in_bounds { 24 * used ≤ length book.now }
-    requires ascends { Ascends 0 (keys (rows book.now used)) }
-    ensures { result ≡ find_in (rows book.now used) (key_value key) }
-{
-    if stands_at(book, used, i, key) {
-        return Found::At(i);
+    // Finds a key: at the given place, or as `find_hinted` does.
+    #[tactic(auto, using(crate::proofs::HalvingLaws::stands_found))]
+    pub fn find_at(&mut self, entries: &Entries, key: Key, i: usize) -> Result<usize, usize>
+        ensures { result ≡ find_in (rows entries.now.bytes.now entries.now.used) (key_value key) }
+    {
+        if entries.holds_at(i, key) {
+            return Ok(i);
+        }
+        self.find_hinted(entries, key)
     }
-    find_hinted(book, used, key, hints)
-}
 
-// The place of a key, or `used` where it has none.
-pub fn place_of(book: &[u8], used: usize, key: Key, hints: &mut [u16]) -> usize
-    requires used_in_bounds { 24 * used ≤ length book.now }
-    requires ascends { Ascends 0 (keys (rows book.now used)) }
-    ensures { result < used → holds (rows book.now used) result (key_value key) ≡ true }
-{
-    match find_hinted(book, used, key, hints) {
-        Found::At(i) => i,
-        Found::Missing(_) => used,
+    // The place of a key.
+    pub fn place_of(&mut self, entries: &Entries, key: Key) -> Option<usize>
+        ensures { IfSome result (λ i. holds (rows entries.now.bytes.now entries.now.used) i (key_value key) ≡ true) }
+    {
+        self.find_hinted(entries, key).ok()
+    }
+
+    // The hint for the key numbered i of a path, from its row; anything where there is no such row.
+    pub fn told(&self, row: usize, i: usize) -> usize {
+        self.table
+            .get(row.saturating_add(i))
+            .map_or(0, |&place| usize::from(place))
+    }
+
+    // Notes in its row where the first keys of a path stand.
+    pub fn note_row(&mut self, row: usize, places: &[u16; 64]) {
+        if let Some(own) = self.table.get_mut(row..row.saturating_add(ROW)) {
+            for i in 0..ROW {
+                own[i] = places[i];
+            }
+        }
+    }
+
+    // Finds a key: at a hinted place, or by halving, and then its place is noted.
+    #[tactic(auto, using(crate::proofs::HalvingLaws::stands_found))]
+    fn find_hinted(&mut self, entries: &Entries, key: Key) -> Result<usize, usize>
+        ensures { result ≡ find_in (rows entries.now.bytes.now entries.now.used) (key_value key) }
+    {
+        if self.table.len() < SLOTS {
+            return entries.find(key);
+        }
+        let sum = mixed(key);
+        let at = usize::from(self.table[first_slot(sum)]);
+        if entries.holds_at(at, key) {
+            return Ok(at);
+        }
+        let then = usize::from(self.table[second_slot(sum)]);
+        if entries.holds_at(then, key) {
+            return Ok(then);
+        }
+        let found = entries.find(key);
+        if let Ok(i) = found {
+            self.note_place(entries, sum, i);
+        }
+        found
+    }
+
+    // Notes that a key with this sum stands at the place i: in its first slot, or in its second where the first is another key's own and sound.
+    fn note_place(&mut self, entries: &Entries, sum: u64, i: usize)
+        requires { 32768 ≤ length self.old.table.now }
+    {
+        let Ok(place) = u16::try_from(i) else {
+            return;
+        };
+        let first = first_slot(sum);
+        let other = usize::from(self.table[first]);
+        let own = other < entries.used && first_slot(mixed(entries.key(other))) == first;
+        let slot = if own { second_slot(sum) } else { first };
+        self.table[slot] = place;
     }
 }

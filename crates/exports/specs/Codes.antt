@@ -2,7 +2,7 @@
 -- is written. The number that a child's look-up reads is an answer also where the child's count is none. How many paths a list of paths took is told in every case
 -- (`taken_or` of `Outputs`). Assumes nothing.
 use Rattle.std.specs.Prelude.{ℕ, ℤ}
-use Rattle.std.proofs.Math.Option.{Option, none, some}
+use Rattle.std.specs.Prelude.{Option, None, Some}
 use Rattle.priors.specs.declared.addresses.Address.{Address}
 use Rattle.divergence.specs.Readings.{Reading, refused, nothing, answered}
 -- a part of an answer, or what stood there before
@@ -16,12 +16,12 @@ code (answered x) = 0
 
 -- the scale and the point of a node, or what stood there before
 abbrev pub scale_or : Option Address → ℤ → ℤ
-scale_or none before = before
-scale_or (some node) before = node.scale
+scale_or None before = before
+scale_or (Some node) before = node.scale
 
 abbrev pub point_or : Option Address → ℕ → ℕ
-point_or none before = before
-point_or (some node) before = node.point
+point_or None before = before
+point_or (Some node) before = node.point
 
 -- those of the node that 14 and 15 name
 abbrev pub scale_named : {X : Type 0} → Reading X → ℤ → ℤ

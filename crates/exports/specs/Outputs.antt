@@ -1,16 +1,15 @@
 -- The parts of each answer in the order in which they stand in lent numbers and arrays. Assumes nothing.
 use Rattle.std.specs.Prelude.{ℕ, List, [], ◌∷◌, get_or, Float}
-use Rattle.std.proofs.Math.Option.{Option, none, some}
+use Rattle.std.specs.Prelude.{Option, None, Some, Result, Ok, Err}
+use Rattle.priors.specs.declared.refusals.Reason.{Reason}
 use Rattle.priors.specs.Children.{ChildLook}
 use Rattle.book.specs.declared.trackers.Tracker.{Tracker}
-use Rattle.book.specs.declared.trackers.Opened.{Opened}
-use Rattle.book.specs.declared.trackers.Changed.{Changed}
-use Rattle.book.specs.declared.trackers.Changed.TheVariants.{Done, Refused as NotDone}
 use Rattle.book.specs.Calls.{BookAnswer, opened_state, unless_refused}
 use Rattle.divergence.specs.Readings.{Statistics}
 use Rattle.divergence.specs.Asked.{Seen, seen_of}
 use Rattle.divergence.specs.Answers.{VectorResult, AllResult}
-use Rattle.baseline.specs.declared.figures.KLDivergenceBaselineStats.{KLDivergenceBaselineStats}
+use Rattle.baseline.specs.declared.five.Five.{Five}
+use Rattle.baseline.specs.declared.figures.MeanVar.{MeanVar}
 
 -- ---- a tracker: window, entries used, paths accepted
 
@@ -26,24 +25,19 @@ numbers_of t = t.window ∷ t.used ∷ t.accepted ∷ []
 
 -- a refused opening gives no state, and the one before it stands
 abbrev pub numbers_or : Option Tracker → List ℕ → List ℕ
-numbers_or none before = before
-numbers_or (some t) before = numbers_of t
+numbers_or None before = before
+numbers_or (Some t) before = numbers_of t
 
-abbrev pub opened_numbers : Opened → List ℕ → List ℕ
+abbrev pub opened_numbers : Result Tracker Reason → List ℕ → List ℕ
 opened_numbers answer before = numbers_or (opened_state answer) before
-
--- a refused add or tidy leaves the state as it was
-abbrev pub changed_numbers : Changed → List ℕ → List ℕ
-changed_numbers (Done t) before = numbers_of t
-changed_numbers (NotDone r t) before = before
 
 abbrev pub kept_numbers : BookAnswer → List ℕ → List ℕ
 kept_numbers a before = unless_refused a.number (numbers_or a.state before) before
 
 -- how many paths were taken, where that is told
 abbrev pub taken_or : Option ℕ → ℕ → ℕ
-taken_or none before = before
-taken_or (some n) before = n
+taken_or None before = before
+taken_or (Some n) before = n
 
 -- ---- a child's look-up
 
@@ -78,7 +72,7 @@ three_counts a = a.stats.nz_count ∷ a.stats.sequence_len ∷ a.skipped ∷ []
 -- ---- baselines
 
 -- mean and variance of maximum, minimum, number, sum and sum of squares
-abbrev pub ten_figures : KLDivergenceBaselineStats → List Float
+abbrev pub ten_figures : Five MeanVar → List Float
 ten_figures f =
     f.max.mean ∷ f.max.variance
     ∷ f.min.mean ∷ f.min.variance

@@ -6,8 +6,10 @@ ghost use Rattle.exports.specs.Codes.{code, written, scale_named, point_named};
 ghost use Rattle.exports.specs.Outputs.{itself, ten_figures};
 
 use crate::answers::{tell_baseline, tell_trained};
-use baseline::baselines::stats;
-use baseline::training::train;
+use baseline::baselines::Baseline;
+use baseline::training::{Sequences, train};
+use priors::lookups::LentPriors;
+use priors::tables::LentTables;
 
 // Numbers 1 to 7, 22, 9, 16 and 13, then 10, 12, 14 and 15 as the work meets them.
 #[unsafe(no_mangle)]
@@ -36,9 +38,19 @@ pub extern "C" fn teakpool_train(
     ensures node_scale_after { node_scale.new ≡ scale_named (train_asked (input_of g.now d.now nodes.now children.now floor sequences.now s n rate) book.old knots.old values.old).answer node_scale.old }
     ensures node_point_after { node_point.new ≡ point_named (train_asked (input_of g.now d.now nodes.now children.now floor sequences.now s n rate) book.old knots.old values.old).answer node_point.old }
 {
-    let answer = train(
-        g, d, nodes, children, floor, sequences, s, n, rate, book, knots, values,
-    );
+    let tables = LentTables { g, d };
+    let priors = LentPriors {
+        nodes,
+        children,
+        floor,
+    };
+    let sequences = Sequences {
+        places: sequences,
+        s,
+        n,
+        rate,
+    };
+    let answer = train(&tables, &priors, &sequences, book, knots, values);
     tell_trained(answer, count, node_scale, node_point)
 }
 
@@ -54,6 +66,11 @@ pub extern "C" fn teakpool_stats(
     ensures value { result ≡ code (baseline_reading knots.now values.now s length) }
     ensures figures_after { figures.new ≡ written ten_figures (baseline_reading knots.now values.now s length) figures.old }
 {
-    let answer = stats(knots, values, s, length);
+    let baseline = Baseline {
+        knots,
+        values,
+        sequences: s,
+    };
+    let answer = baseline.stats(length);
     tell_baseline(answer, figures)
 }

@@ -4,16 +4,15 @@ ghost use Rattle.priors.specs.Tables.{tables_refusal};
 ghost use Rattle.priors.specs.Priors.{layer_of, priors_refusal};
 
 use crate::answers::tell_checked;
-use priors::addresses::layer_of;
-use priors::checks::check_priors;
-use priors::tables::check_tables;
+use priors::lookups::LentPriors;
+use priors::tables::LentTables;
 
 // Numbers 1 and 2.
 #[unsafe(no_mangle)]
 pub extern "C" fn teakpool_check_tables(g: &[f64], d: &[f64]) -> u32
     ensures { result ≡ tables_refusal g.now d.now }
 {
-    tell_checked(check_tables(g, d))
+    tell_checked(LentTables { g, d }.check())
 }
 
 // Numbers 3 to 7 and 22.
@@ -21,5 +20,10 @@ pub extern "C" fn teakpool_check_tables(g: &[f64], d: &[f64]) -> u32
 pub extern "C" fn teakpool_check_priors(nodes: &[u8], children: &[u8], floor: i32) -> u32
     ensures { result ≡ priors_refusal nodes.now children.now (layer_of floor) }
 {
-    tell_checked(check_priors(nodes, children, layer_of(floor)))
+    let priors = LentPriors {
+        nodes,
+        children,
+        floor,
+    };
+    tell_checked(priors.check())
 }

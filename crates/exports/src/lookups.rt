@@ -8,7 +8,8 @@ ghost use Rattle.exports.specs.Codes.{code, written};
 ghost use Rattle.exports.specs.Outputs.{read_of, itself};
 
 use crate::answers::tell_child;
-use priors::children::child;
+use priors::addresses::Address;
+use priors::lookups::LentPriors;
 
 // Numbers 3 to 7 and 22; none where the node has no prior, or its prior no such child.
 #[unsafe(no_mangle)]
@@ -27,14 +28,15 @@ pub extern "C" fn teakpool_child(
     ensures count_after { count.new ≡ written itself (count_told (child_asked (lent_priors nodes.now children.now floor) (rank_of scale point) (rank_of child_scale child_point))) count.old }
     ensures read_after { read.new ≡ written read_of (child_asked (lent_priors nodes.now children.now floor) (rank_of scale point) (rank_of child_scale child_point)) read.old }
 {
-    let answer = child(
+    let priors = LentPriors {
         nodes,
         children,
         floor,
-        scale,
-        point,
-        child_scale,
-        child_point,
-    );
+    };
+    let child = Address {
+        scale: child_scale,
+        point: child_point,
+    };
+    let answer = priors.child(Address { scale, point }, child);
     tell_child(answer, count, read)
 }

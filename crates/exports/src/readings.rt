@@ -9,8 +9,13 @@ ghost use Rattle.exports.specs.Codes.{code, written, scale_named, point_named};
 ghost use Rattle.exports.specs.Outputs.{seen_in, places_of, ending_of, itself, all_counts, four_figures, three_counts};
 
 use crate::answers::{tell_all, tell_kl, tell_stats, tell_vector, tracker_of};
+use book::trackers::Seen;
+use divergence::answers::Output;
 use divergence::kl_readings::{all_node_kl, kl_div_stats, posterior_kl_divergence};
 use divergence::vectors::{evidence_prob_vector, prob_vector};
+use priors::addresses::Address;
+use priors::lookups::LentPriors;
+use priors::tables::LentTables;
 
 // Numbers 3 to 7, 22, 9 and 13; none where the node has no prior.
 #[unsafe(no_mangle)]
@@ -34,10 +39,18 @@ pub extern "C" fn teakpool_prob_vector(
     ensures places_after { places.new ≡ written places_of (prob_asked (seen_in state.now book.now queue.now) (lent_priors nodes.now children.now floor) (rank_of scale point) (lent_output addresses.old figures.old)).answer places.old }
     ensures ending_after { ending.new ≡ written ending_of (prob_asked (seen_in state.now book.now queue.now) (lent_priors nodes.now children.now floor) (rank_of scale point) (lent_output addresses.old figures.old)).answer ending.old }
 {
-    let t = tracker_of(state);
-    let answer = prob_vector(
-        t, book, queue, nodes, children, floor, scale, point, addresses, figures,
-    );
+    let seen = Seen {
+        tracker: tracker_of(state),
+        book,
+        queue,
+    };
+    let priors = LentPriors {
+        nodes,
+        children,
+        floor,
+    };
+    let mut output = Output { addresses, figures };
+    let answer = prob_vector(&seen, &priors, Address { scale, point }, &mut output);
     tell_vector(answer, places, ending)
 }
 
@@ -60,8 +73,13 @@ pub extern "C" fn teakpool_evidence_prob_vector(
     ensures places_after { places.new ≡ written places_of (evidence_asked (seen_in state.now book.now queue.now) (rank_of scale point) (lent_output addresses.old figures.old)).answer places.old }
     ensures ending_after { ending.new ≡ written ending_of (evidence_asked (seen_in state.now book.now queue.now) (rank_of scale point) (lent_output addresses.old figures.old)).answer ending.old }
 {
-    let t = tracker_of(state);
-    let answer = evidence_prob_vector(t, book, queue, scale, point, addresses, figures);
+    let seen = Seen {
+        tracker: tracker_of(state),
+        book,
+        queue,
+    };
+    let mut output = Output { addresses, figures };
+    let answer = evidence_prob_vector(&seen, Address { scale, point }, &mut output);
     tell_vector(answer, places, ending)
 }
 
@@ -83,10 +101,18 @@ pub extern "C" fn teakpool_posterior_kl_divergence(
     ensures value { result ≡ code (kl_asked (seen_in state.now book.now queue.now) (lent_tables g.now d.now) (lent_priors nodes.now children.now floor) (rank_of scale point)) }
     ensures value_after { value.new ≡ written itself (kl_asked (seen_in state.now book.now queue.now) (lent_tables g.now d.now) (lent_priors nodes.now children.now floor) (rank_of scale point)) value.old }
 {
-    let t = tracker_of(state);
-    let answer = posterior_kl_divergence(
-        t, book, queue, nodes, children, floor, g, d, scale, point,
-    );
+    let seen = Seen {
+        tracker: tracker_of(state),
+        book,
+        queue,
+    };
+    let priors = LentPriors {
+        nodes,
+        children,
+        floor,
+    };
+    let tables = LentTables { g, d };
+    let answer = posterior_kl_divergence(&seen, &tables, &priors, Address { scale, point });
     tell_kl(answer, value)
 }
 
@@ -114,10 +140,19 @@ pub extern "C" fn teakpool_all_node_kl(
     ensures node_scale_after { node_scale.new ≡ scale_named (all_asked (seen_in state.now book.now queue.now) (lent_tables g.now d.now) (lent_priors nodes.now children.now floor) (lent_output addresses.old figures.old)).answer node_scale.old }
     ensures node_point_after { node_point.new ≡ point_named (all_asked (seen_in state.now book.now queue.now) (lent_tables g.now d.now) (lent_priors nodes.now children.now floor) (lent_output addresses.old figures.old)).answer node_point.old }
 {
-    let t = tracker_of(state);
-    let answer = all_node_kl(
-        t, book, queue, nodes, children, floor, g, d, addresses, figures,
-    );
+    let seen = Seen {
+        tracker: tracker_of(state),
+        book,
+        queue,
+    };
+    let priors = LentPriors {
+        nodes,
+        children,
+        floor,
+    };
+    let tables = LentTables { g, d };
+    let mut output = Output { addresses, figures };
+    let answer = all_node_kl(&seen, &tables, &priors, &mut output);
     tell_all(answer, counts, node_scale, node_point)
 }
 
@@ -143,7 +178,17 @@ pub extern "C" fn teakpool_kl_div_stats(
     ensures node_scale_after { node_scale.new ≡ scale_named (stats_asked (seen_in state.now book.now queue.now) (lent_tables g.now d.now) (lent_priors nodes.now children.now floor)) node_scale.old }
     ensures node_point_after { node_point.new ≡ point_named (stats_asked (seen_in state.now book.now queue.now) (lent_tables g.now d.now) (lent_priors nodes.now children.now floor)) node_point.old }
 {
-    let t = tracker_of(state);
-    let answer = kl_div_stats(t, book, queue, nodes, children, floor, g, d);
+    let seen = Seen {
+        tracker: tracker_of(state),
+        book,
+        queue,
+    };
+    let priors = LentPriors {
+        nodes,
+        children,
+        floor,
+    };
+    let tables = LentTables { g, d };
+    let answer = kl_div_stats(&seen, &tables, &priors);
     tell_stats(answer, figures, counts, node_scale, node_point)
 }

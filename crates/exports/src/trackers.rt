@@ -7,7 +7,7 @@ ghost use Rattle.book.specs.Batches.{batch_answer};
 ghost use Rattle.book.specs.Tidy.{tidy_answer};
 ghost use Rattle.exports.specs.Outputs.{tracker_of, numbers_or, taken_or, kept_numbers};
 
-use crate::answers::{tell_batch, tell_changed, tell_opened, tracker_of};
+use crate::answers::{tell_batch, tell_state, tracker_of};
 use book::trackers::Tracker;
 
 // Numbers 8 and 9.
@@ -23,8 +23,7 @@ pub extern "C" fn teakpool_open(
     ensures queue_after { queue.new ≡ (open_answer window book.old queue.old).queue }
     ensures state_after { state.new ≡ numbers_or (open_answer window book.old queue.old).state state.old }
 {
-    let answer = Tracker::open(window, book, queue);
-    tell_opened(answer, state)
+    tell_state(Tracker::open(window, book, queue), state)
 }
 
 // Numbers 9 to 12.
@@ -41,8 +40,7 @@ pub extern "C" fn teakpool_add_path(
     ensures state_after { state.new ≡ kept_numbers (add_answer (tracker_of state.old) book.old queue.old path.now) state.old }
 {
     let t = tracker_of(state);
-    let answer = t.add_path(book, queue, path);
-    tell_changed(answer, state)
+    tell_state(t.add_path(book, queue, path), state)
 }
 
 // Numbers 9 to 12: 9 before the first path. How many were taken is told in every case.
@@ -61,8 +59,7 @@ pub extern "C" fn teakpool_add_paths(
     ensures state_after { state.new ≡ numbers_or (batch_answer (tracker_of state.old) book.old queue.old places.now).state state.old }
 {
     let t = tracker_of(state);
-    let answer = t.add_paths(book, queue, places);
-    tell_batch(answer, state, taken)
+    tell_batch(t.add_paths(book, queue, places), state, taken)
 }
 
 // Number 9.
@@ -73,6 +70,5 @@ pub extern "C" fn teakpool_tidy(state: &mut [u32; 3], book: &mut [u8], queue: &[
     ensures state_after { state.new ≡ kept_numbers (tidy_answer (tracker_of state.old) book.old queue.now) state.old }
 {
     let t = tracker_of(state);
-    let answer = t.tidy(book, queue);
-    tell_changed(answer, state)
+    tell_state(t.tidy(book, queue), state)
 }

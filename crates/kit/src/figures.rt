@@ -1,116 +1,70 @@
-// Figures: an f64 is recorded by its bits, low word first. The bits are decoded by exact arithmetic, since sums and products with
-// powers of two round nothing here; decoded and computed figures are then compared as numbers, zeros told apart, NaN equal to NaN.
+// Runs of numbers and of figures. A figure is an f64, recorded by its bits, low word first. Figures are compared as numbers, zeros told
+// apart, NaN equal to NaN.
 use crate::tallies::Tally;
-use crate::tape::{forward, word};
+use crate::tape::Place;
+use std::num::{f64_from_bits_with_nan, f64_to_bits_with_nan};
 
-// x times a factor as often as e says, by squaring. The factor is 2 or 1/2 and what comes out is an f64, so every step is exact.
-fn scaled(x: f64, factor: f64, e: u32) -> f64 {
-    let mut y = x;
-    let mut f = factor;
-    let mut left = e;
-    while 0 < left {
-        if left % 2 == 1 {
-            y = y * f;
-        }
-        f = f * f;
-        left = left / 2;
-    }
-    y
+// What a run is of: numbers, a word each, or figures, two words each.
+pub trait Recorded: Copy {
+    fn read(at: &mut Place) -> Self;
+
+    fn same(self, other: Self) -> bool;
 }
 
-// The number of 53 bits: the leading one if there is one, 20 bits and 32 bits.
-fn whole(lead: f64, high: u32, low: u32) -> f64 {
-    (lead + (high as f64)) * 4294967296.0 + (low as f64)
+impl Recorded for u32 {
+    fn read(at: &mut Place) -> u32 {
+        at.word()
+    }
+
+    fn same(self, other: u32) -> bool {
+        self == other
+    }
 }
 
-// The figure with this exponent field and these bits of its fraction, without its sign.
-fn magnitude(exponent: u32, high: u32, low: u32) -> f64 {
-    if exponent == 2047 {
-        let infinity = scaled(1.0, 2.0, 1024);
-        if high == 0 && low == 0 {
-            return infinity;
-        }
-        return infinity - infinity;
+impl Recorded for f64 {
+    fn read(at: &mut Place) -> f64 {
+        let low = at.word();
+        figure(at.word(), low)
     }
-    if exponent == 0 {
-        return scaled(whole(0.0, high, low), 0.5, 1074);
+
+    fn same(self, other: f64) -> bool {
+        f64_to_bits_with_nan(self) == f64_to_bits_with_nan(other)
     }
-    let x = whole(1048576.0, high, low);
-    if exponent < 1075 {
-        return scaled(x, 0.5, 1075 - exponent);
-    }
-    scaled(x, 2.0, exponent - 1075)
 }
 
-// The figure that stands at a place.
-pub fn figure(tape: &[u8], at: usize) -> f64 {
-    let low = word(tape, at);
-    let high = word(tape, forward(at, 1));
-    let x = magnitude(high / 1048576 % 2048, high % 1048576, low);
-    if high < 2147483648 {
-        return x;
-    }
-    -x
-}
-
-// The same figure: equal numbers, a zero's sign included, or a NaN each.
-pub fn same(x: f64, y: f64) -> bool {
-    if x != x {
-        return y != y;
-    }
-    if x == 0.0 && y == 0.0 {
-        return 1.0 / x == 1.0 / y;
-    }
-    x == y
+// The figure of these bits.
+fn figure(high: u32, low: u32) -> f64 {
+    f64_from_bits_with_nan(u64::from(high) << 32 | u64::from(low))
 }
 
 // The comparison itself: the zeros are two figures, any NaN is any NaN, and minus zero is decoded as such.
 pub fn compared() -> Tally {
-    let nan = magnitude(2047, 1, 0);
+    let nan = figure(0x7ff0_0001, 0);
     let minus_zero = [0u8, 0, 0, 0, 0, 0, 0, 128];
-    Tally::new()
-        .with(!same(0.0, -0.0))
-        .with(!same(-0.0, 0.0))
-        .with(same(figure(&minus_zero, 0), -0.0))
-        .with(same(nan, -nan))
-        .with(!same(nan, 0.0))
+    Tally::new().with_all(&[
+        !0.0f64.same(-0.0),
+        !(-0.0f64).same(0.0),
+        f64::read(&mut Place::start(&minus_zero)).same(-0.0),
+        nan.same(-nan),
+        !nan.same(0.0),
+    ])
 }
 
-// The place of the figure numbered i of those that stand at a place.
-fn figure_place(at: usize, i: usize) -> usize {
-    forward(forward(forward(at, 1), i), i)
+// This comes next.
+pub fn is_next<T: Recorded>(at: &mut Place, x: T) -> bool {
+    T::read(at).same(x)
 }
 
-// Puts the figures that stand at a place into out, as many as fit, and gives their number.
-pub fn put_figures(tape: &[u8], at: usize, out: &mut [f64]) -> usize {
-    let n = word(tape, at) as usize;
-    let mut i = 0;
-    while i < n && i < out.len() {
-        out[i] = figure(tape, figure_place(at, i));
-        i += 1;
+// Brings the run that comes next to the start of a buffer and gives that part, if the buffer is long enough.
+pub fn bring<'b, T: Recorded>(at: &mut Place, buffer: &'b mut [T]) -> Option<&'b mut [T]> {
+    let run = buffer.get_mut(..at.count())?;
+    for x in run.iter_mut() {
+        *x = T::read(at);
     }
-    n
+    Some(run)
 }
 
-// The first n figures, or all where there are fewer.
-pub fn first_of(s: &[f64], n: usize) -> &[f64] {
-    if n <= s.len() {
-        return &s[..n];
-    }
-    &s[..]
-}
-
-// The figures are those that stand at a place, and as many.
-pub fn same_figures(tape: &[u8], at: usize, s: &[f64]) -> bool {
-    if word(tape, at) as usize != s.len() {
-        return false;
-    }
-    let mut i = 0;
-    while i < s.len() {
-        if !same(figure(tape, figure_place(at, i)), s[i]) {
-            return false;
-        }
-        i += 1;
-    }
-    true
+// This run comes next.
+pub fn same_run<T: Recorded>(at: &mut Place, run: &[T]) -> bool {
+    at.count() == run.len() && run.iter().all(|&x| is_next(at, x))
 }

@@ -2,48 +2,67 @@
 // of those that came out otherwise than recorded.
 #![tactic(auto)]
 
+ghost use Rattle.std.specs.Prelude.{◌^◌, ◌<◌};
+
 mod tape; // a recorded file as words
-mod figures; // f64 in words
-mod numbers; // numbers in words
-mod memory; // lent bytes, filled and compared
-mod refusals; // a refusal as it is recorded
 mod tallies; // cases tried and cases that differ
+mod figures; // runs of numbers and of figures
+mod memory; // lent bytes, brought in and compared
+mod refusals; // a refusal as it is recorded
 mod priors_cases; // priors.bin
 mod priors_bounds; // priors and tables at the ends of their rules
-mod calls_cases; // calls.bin and large.bin
-mod altered_cases; // altered.bin
-mod outputs; // a lent output
+mod calls_cases; // openings, adds, lists of paths and tidies
+mod outputs; // an output that a reading is lent
 mod vector_calls; // readings of probabilities
 mod kl_calls; // readings of divergences
-mod readings_cases; // readings.bin, tidies.bin and batches.bin
+mod readings_cases; // lists of all these: calls.bin, large.bin, readings.bin, tidies.bin and batches.bin
+mod altered_cases; // altered.bin
 mod stats_cases; // training.bin: figures asked of baselines
 mod train_cases; // training.bin: trainings
 mod training_cases; // training.bin
 mod book_bounds; // openings and adds at the ends of their rules
 
-use crate::tape::part;
+use crate::tallies::Tally;
+use crate::tape::first_of;
 use std::io::Read;
+use std::rt::Files;
 use std::{fs, io};
 
-// Reads until the buffer is full, the file ends or a read fails.
+// Reads until the buffer is full, the file ends or a read fails. A read gives as many bytes as it likes, so that no range or slice method
+// stands for the loop.
 fn read_full(file: &mut impl Read, buffer: &mut [u8]) -> usize {
     let mut n = 0;
     while n < buffer.len() {
         match file.read(&mut buffer[n..]) {
-            Ok(0) => return n,
+            Ok(0) | Err(_) => return n,
             Ok(k) => n += k,
-            Err(_) => return n,
         }
     }
     n
 }
 
 // Reads a file whole into a buffer; what is read is its first bytes. No file reads as no bytes.
-fn read_file(rt: &HostRuntime, name: &str, buffer: &mut [u8]) -> usize {
+fn read_file(rt: &impl Files, name: &str, buffer: &mut [u8]) -> usize {
     match fs::open(rt, name) {
         Ok(mut file) => read_full(&mut file, buffer),
         Err(_) => 0,
     }
+}
+
+// Replays a file of at most N bytes.
+fn recorded<const N: usize, F: FnOnce(&[u8]) -> Tally>(
+    rt: &(impl Files + Print),
+    name: &str,
+    file: &str,
+    replay: F,
+) -> io::Result<()>
+    requires fits { N < 2 ^ 63 }
+    requires callable { F.IsAlwaysCallable replay }
+{
+    let mut tape = [0u8; N];
+    let n = read_file(rt, file, &mut tape);
+    let tally = replay(first_of(&tape, n));
+    println!(rt; "{name}: {tally}")
 }
 
 // So many bytes of zero. An array this long, written out, is more than the check computes with.
@@ -51,116 +70,36 @@ fn zeros<const N: usize>() -> [u8; N] {
     [0u8; N]
 }
 
-fn priors(rt: &HostRuntime) -> io::Result<()> {
-    let mut tape = [0u8; 32768];
-    let n = read_file(rt, "priors.bin", &mut tape);
-    priors_cases::replay(part(&tape, 0, n)).print(rt, "priors")?;
-    priors_bounds::run().print(rt, "priors at their bounds")?;
-    Ok(())
-}
-
-fn calls(rt: &HostRuntime) -> io::Result<()> {
-    let mut tape = [0u8; 65536];
-    let n = read_file(rt, "calls.bin", &mut tape);
-    let mut book = [0u8; 1536];
-    let mut queue = [0u8; 4644];
-    calls_cases::replay(part(&tape, 0, n), calls_cases::CALLS, &mut book, &mut queue).print(
-        rt, "calls",
-    )?;
-    Ok(())
-}
-
-fn large_calls(rt: &HostRuntime) -> io::Result<()> {
-    let mut tape = [0u8; 16384];
-    let n = read_file(rt, "large.bin", &mut tape);
-    let mut book = [0u8; 393240];
-    let mut queue = zeros::<528384>();
-    calls_cases::replay(part(&tape, 0, n), calls_cases::LARGE, &mut book, &mut queue).print(
-        rt,
-        "large calls",
-    )?;
-    Ok(())
-}
-
-fn altered(rt: &HostRuntime) -> io::Result<()> {
-    let mut tape = [0u8; 65536];
-    let n = read_file(rt, "altered.bin", &mut tape);
-    let mut book = [0u8; 1536];
-    let mut queue = [0u8; 4644];
-    altered_cases::replay(part(&tape, 0, n), &mut book, &mut queue).print(rt, "altered memory")?;
-    Ok(())
-}
-
-fn openings(rt: &HostRuntime) -> io::Result<()> {
-    let mut book = [0u8; 393240];
-    let mut queue = zeros::<528384>();
-    book_bounds::openings(&mut book, &mut queue).print(rt, "openings at their bounds")?;
-    book_bounds::paths().print(rt, "paths at their bounds")?;
-    Ok(())
-}
-
-fn readings(rt: &HostRuntime) -> io::Result<()> {
-    let mut tape = [0u8; 131072];
-    let n = read_file(rt, "readings.bin", &mut tape);
-    let mut book = [0u8; 1536];
-    let mut queue = [0u8; 4644];
-    readings_cases::replay(
-        part(&tape, 0, n),
-        readings_cases::READINGS,
-        &mut book,
-        &mut queue,
-    )
-    .print(rt, "readings")?;
-    Ok(())
-}
-
-fn tidies(rt: &HostRuntime) -> io::Result<()> {
-    let mut tape = [0u8; 65536];
-    let n = read_file(rt, "tidies.bin", &mut tape);
-    let mut book = [0u8; 1536];
-    let mut queue = [0u8; 4644];
-    readings_cases::replay(
-        part(&tape, 0, n),
-        readings_cases::TIDIES,
-        &mut book,
-        &mut queue,
-    )
-    .print(rt, "tidies")?;
-    Ok(())
-}
-
-fn batches(rt: &HostRuntime) -> io::Result<()> {
-    let mut tape = [0u8; 65536];
-    let n = read_file(rt, "batches.bin", &mut tape);
-    let mut book = [0u8; 1536];
-    let mut queue = [0u8; 4644];
-    readings_cases::replay(
-        part(&tape, 0, n),
-        readings_cases::BATCHES,
-        &mut book,
-        &mut queue,
-    )
-    .print(rt, "batches")?;
-    Ok(())
-}
-
-fn training(rt: &HostRuntime) -> io::Result<()> {
-    let mut tape = [0u8; 81920];
-    let n = read_file(rt, "training.bin", &mut tape);
-    training_cases::replay(part(&tape, 0, n)).print(rt, "training")?;
-    Ok(())
-}
-
 fn main(rt: HostRuntime) -> io::Result<()> {
-    figures::compared().print(&rt, "figures")?;
-    priors(&rt)?;
-    calls(&rt)?;
-    large_calls(&rt)?;
-    altered(&rt)?;
-    readings(&rt)?;
-    tidies(&rt)?;
-    batches(&rt)?;
-    training(&rt)?;
-    openings(&rt)?;
-    Ok(())
+    let mut book = [0u8; 1536];
+    let mut queue = [0u8; 4644];
+    let mut large_book = [0u8; 393240];
+    let mut large_queue = zeros::<528384>();
+    println!(&rt; "figures: {}", figures::compared())?;
+    recorded::<32768, _>(&rt, "priors", "priors.bin", priors_cases::replay)?;
+    println!(&rt; "priors at their bounds: {}", priors_bounds::run())?;
+    recorded::<65536, _>(&rt, "calls", "calls.bin", |tape| {
+        readings_cases::replay(tape, b"TPC1", &mut book, &mut queue)
+    })?;
+    recorded::<16384, _>(&rt, "large calls", "large.bin", |tape| {
+        readings_cases::replay(tape, b"TPL1", &mut large_book, &mut large_queue)
+    })?;
+    recorded::<65536, _>(&rt, "altered memory", "altered.bin", |tape| {
+        altered_cases::replay(tape, &mut book, &mut queue)
+    })?;
+    recorded::<131072, _>(&rt, "readings", "readings.bin", |tape| {
+        readings_cases::replay(tape, b"TPR1", &mut book, &mut queue)
+    })?;
+    recorded::<65536, _>(&rt, "tidies", "tidies.bin", |tape| {
+        readings_cases::replay(tape, b"TPY1", &mut book, &mut queue)
+    })?;
+    recorded::<65536, _>(&rt, "batches", "batches.bin", |tape| {
+        readings_cases::replay(tape, b"TPB1", &mut book, &mut queue)
+    })?;
+    recorded::<81920, _>(&rt, "training", "training.bin", training_cases::replay)?;
+    println!(&rt;
+        "openings at their bounds: {}",
+        book_bounds::openings(&mut large_book, &mut large_queue)
+    )?;
+    println!(&rt; "paths at their bounds: {}", book_bounds::paths())
 }

@@ -1,20 +1,28 @@
-// A lent output: addresses as bytes, figures beside them. It stands at a place as bytes, then figures.
-use crate::figures::{put_figures, same_figures};
-use crate::memory::copy_in;
-use crate::tape::{after_bytes, after_figures, bytes_at};
+// An output that a reading is lent: addresses as bytes, and figures.
+use crate::figures::{bring, same_run};
+use crate::memory::bring_bytes;
+use crate::tape::Place;
+use divergence::answers::Output;
 
-// Brings the output that stands at a place to the starts of the buffers.
-pub fn bring(tape: &[u8], at: usize, addresses: &mut [u8], figures: &mut [f64]) {
-    copy_in(addresses, bytes_at(tape, at));
-    put_figures(tape, after_bytes(tape, at), figures);
-}
-
-// The output is the one that stands at a place.
-pub fn same_output(tape: &[u8], at: usize, addresses: &[u8], figures: &[f64]) -> bool {
-    check::same(bytes_at(tape, at), addresses) && same_figures(tape, after_bytes(tape, at), figures)
-}
-
-// The place after the output that stands at a place.
-pub fn after_output(tape: &[u8], at: usize) -> usize {
-    after_figures(tape, after_bytes(tape, at))
+// A reading into the output that comes next, held to its answer and to the output afterwards, which follow.
+pub fn lend_output<A, R: FnOnce(&mut Output) -> A, S: FnOnce(&mut Place, A) -> bool>(
+    at: &mut Place,
+    read: R,
+    same_answer: S,
+) -> Option<bool>
+    requires reads { R.IsAlwaysCallable read }
+    requires compares { S.IsAlwaysCallable same_answer }
+{
+    let mut addresses = [0u8; 64];
+    let mut figures = [0.0f64; 8];
+    let addresses = bring_bytes(at, &mut addresses)?;
+    let figures = bring(at, &mut figures)?;
+    let answer = {
+        let mut output = Output {
+            addresses: &mut *addresses,
+            figures: &mut *figures,
+        };
+        read(&mut output)
+    };
+    Some(same_answer(at, answer) && at.bytes() == addresses && same_run(at, figures))
 }

@@ -1,17 +1,17 @@
 // Priors and tables at the ends of their rules: each input is one step inside a limit or one step past it, and the number it gets
 // is the one of 01's table. Tables of the largest lengths are tried elsewhere: they do not fit the stack here.
-use crate::figures::first_of;
-use crate::priors_cases::checked_number;
+use crate::refusals::number_of;
 use crate::tallies::Tally;
-use crate::tape::part;
-use priors::checks::check_priors;
-use priors::tables::check_tables;
+use crate::tape::first_of;
+use priors::lookups::LentPriors;
+use priors::records::RECORD_SIZE;
+use priors::tables::LentTables;
 use priors::words::write_u32;
 
 // The scale -1, by its bits.
-const MINUS_ONE: u32 = 4294967295;
+const MINUS_ONE: u32 = u32::MAX;
 
-const LARGEST: u32 = 4294967295;
+const LARGEST: u32 = u32::MAX;
 
 // 2^40, and the f64 after it.
 const HIGHEST: f64 = 1099511627776.0;
@@ -27,16 +27,16 @@ struct Prior {
     link: u32,
 }
 
-// Writes the record numbered i from 0, if it lies within s.
-fn put(s: &mut [u8], i: usize, r: Prior) {
-    if s.len() / 16 <= i {
-        return;
+impl Prior {
+    // The record as it is lent.
+    fn bytes(self) -> [u8; RECORD_SIZE] {
+        let mut bytes = [0u8; RECORD_SIZE];
+        write_u32(&mut bytes, 0, self.bits);
+        write_u32(&mut bytes, 4, self.point);
+        write_u32(&mut bytes, 8, self.count);
+        write_u32(&mut bytes, 12, self.link);
+        bytes
     }
-    let at = 16 * i;
-    write_u32(s, at, r.bits);
-    write_u32(s, at + 4, r.point);
-    write_u32(s, at + 8, r.count);
-    write_u32(s, at + 12, r.link);
 }
 
 // A record that is in order on its own: the point i, the count 1.
@@ -71,177 +71,160 @@ fn counts_nothing(link: u32) -> Prior {
 
 // The link of the record numbered i, where the first `linked` records are one chain.
 fn chain_link(i: u32, linked: u32) -> u32 {
-    if linked <= i {
-        return 0;
-    }
-    if linked - i == 1 {
-        return 0;
-    }
-    if 16777216 <= i {
+    if linked.saturating_sub(i) < 2 {
         return 0;
     }
     i + 2
 }
 
-// Writes records with the points from 0 up, of which the first `linked` are one chain.
-fn put_all(s: &mut [u8], n: u32, linked: u32) {
-    let mut i = 0;
-    while i < n {
-        put(s, i as usize, plain(i, chain_link(i, linked)));
-        i += 1;
+// Records with the points from 0 up, of which the first `linked` are one chain.
+fn put_all(records: &mut [[u8; RECORD_SIZE]], linked: u32) {
+    for (record, i) in records.iter_mut().zip(0..) {
+        *record = plain(i, chain_link(i, linked)).bytes();
     }
 }
 
-// The priors of so many bytes get this number.
-fn gets(nodes: &[u8], node_bytes: usize, children: &[u8], child_bytes: usize, wanted: u32) -> bool {
-    checked_number(check_priors(
-        part(nodes, 0, node_bytes),
-        part(children, 0, child_bytes),
-        0,
-    )) == wanted
+// These priors get this number.
+fn gets(nodes: &[u8], children: &[u8], wanted: u32) -> bool {
+    let priors = LentPriors {
+        nodes,
+        children,
+        floor: i32::MIN,
+    };
+    number_of(priors.check()) == wanted
 }
 
 // The same of records with the points from 0 up, of which the first `linked` children are one chain, and a node that starts it at `first`.
 fn chain_gets(linked: u32, first: u32, wanted: u32) -> bool {
-    let mut nodes = [0u8; 16];
-    let mut children = [0u8; 1040];
-    put(&mut nodes, 0, plain(0, first));
-    put_all(&mut children, linked, linked);
-    gets(&nodes, 16, &children, 16 * (linked as usize), wanted)
-}
-
-fn put_two(s: &mut [u8], a: Prior, b: Prior) {
-    put(s, 0, a);
-    put(s, 1, b);
-}
-
-fn put_three(s: &mut [u8], a: Prior, b: Prior, c: Prior) {
-    put_two(s, a, b);
-    put(s, 2, c);
+    let mut children = [[0u8; RECORD_SIZE]; 65];
+    put_all(&mut children, linked);
+    gets(
+        &plain(0, first).bytes(),
+        first_of(&children, linked as usize).as_flattened(),
+        wanted,
+    )
 }
 
 // The same of two nodes with these first links, and three children with these next links.
 fn links_get(first: u32, second: u32, a: u32, b: u32, c: u32, wanted: u32) -> bool {
-    let mut nodes = [0u8; 32];
-    let mut children = [0u8; 48];
-    put_two(&mut nodes, plain(0, first), plain(1, second));
-    put_three(&mut children, plain(0, a), plain(1, b), plain(2, c));
-    gets(&nodes, 32, &children, 48, wanted)
+    let nodes = [plain(0, first), plain(1, second)].map(Prior::bytes);
+    let children = [plain(0, a), plain(1, b), plain(2, c)].map(Prior::bytes);
+    gets(nodes.as_flattened(), children.as_flattened(), wanted)
 }
 
 // The same of two nodes without children.
 fn nodes_get(a: Prior, b: Prior, wanted: u32) -> bool {
-    let mut nodes = [0u8; 32];
-    put_two(&mut nodes, a, b);
-    gets(&nodes, 32, &nodes, 0, wanted)
+    let nodes = [a, b].map(Prior::bytes);
+    gets(nodes.as_flattened(), &[], wanted)
 }
 
 // The same of a node and a chain of two children.
 fn pair_gets(a: Prior, b: Prior, wanted: u32) -> bool {
-    let mut nodes = [0u8; 16];
-    let mut children = [0u8; 32];
-    put(&mut nodes, 0, plain(0, 1));
-    put_two(&mut children, a, b);
-    gets(&nodes, 16, &children, 32, wanted)
+    let children = [a, b].map(Prior::bytes);
+    gets(&plain(0, 1).bytes(), children.as_flattened(), wanted)
 }
 
 // The same of a node and a child.
 fn node_gets(node: Prior, child: Prior, wanted: u32) -> bool {
-    let mut nodes = [0u8; 16];
-    let mut children = [0u8; 16];
-    put(&mut nodes, 0, node);
-    put(&mut children, 0, child);
-    gets(&nodes, 16, &children, 16, wanted)
+    gets(&node.bytes(), &child.bytes(), wanted)
 }
 
 // Sizes: no record, 4,096 and 4,097 nodes, 16,384 and 16,385 children, and a byte too many or too few.
 fn sizes(t: Tally, nodes: &[u8], children: &[u8]) -> Tally {
-    let t = t.with(gets(nodes, 0, children, 0, 0));
-    let t = t.with(gets(nodes, 65536, children, 0, 0));
-    let t = t.with(gets(nodes, 65552, children, 0, 3));
-    let t = t.with(gets(nodes, 0, children, 262144, 0));
-    let t = t.with(gets(nodes, 0, children, 262160, 3));
-    let t = t.with(gets(nodes, 65536, children, 262144, 0));
-    let t = t.with(gets(nodes, 17, children, 0, 3));
-    t.with(gets(nodes, 16, children, 15, 3))
+    t.with_all(&[
+        gets(&[], &[], 0),
+        gets(first_of(nodes, 65536), &[], 0),
+        gets(first_of(nodes, 65552), &[], 3),
+        gets(&[], first_of(children, 262144), 0),
+        gets(&[], first_of(children, 262160), 3),
+        gets(first_of(nodes, 65536), first_of(children, 262144), 0),
+        gets(first_of(nodes, 17), &[], 3),
+        gets(first_of(nodes, 16), first_of(children, 15), 3),
+    ])
 }
 
 // Chains of 64 and of 65 records, and 64 of 65. Then a link to the record itself, to a lower one, past the end, and to the last; a
 // first link past the end; tails that are shared.
 fn links(t: Tally) -> Tally {
-    let t = t.with(chain_gets(64, 1, 0));
-    let t = t.with(chain_gets(65, 1, 5));
-    let t = t.with(chain_gets(65, 2, 0));
-    let t = t.with(links_get(0, 0, 0, 2, 0, 5));
-    let t = t.with(links_get(0, 0, 0, 1, 0, 5));
-    let t = t.with(links_get(0, 0, 0, 4, 0, 5));
-    let t = t.with(links_get(0, 0, 0, 3, 0, 0));
-    let t = t.with(links_get(4, 0, 0, 3, 0, 5));
-    t.with(links_get(2, 1, 3, 3, 0, 0))
+    t.with_all(&[
+        chain_gets(64, 1, 0),
+        chain_gets(65, 1, 5),
+        chain_gets(65, 2, 0),
+        links_get(0, 0, 0, 2, 0, 5),
+        links_get(0, 0, 0, 1, 0, 5),
+        links_get(0, 0, 0, 4, 0, 5),
+        links_get(0, 0, 0, 3, 0, 0),
+        links_get(4, 0, 0, 3, 0, 5),
+        links_get(2, 1, 3, 3, 0, 0),
+    ])
 }
 
 // The scale -1 before the scale 0 and not after it; an address twice; the largest point after the least.
 fn orders(t: Tally) -> Tally {
-    let t = t.with(nodes_get(below_zero(0), plain(0, 0), 0));
-    let t = t.with(nodes_get(plain(0, 0), below_zero(0), 4));
-    let t = t.with(nodes_get(below_zero(0), below_zero(0), 4));
-    let t = t.with(nodes_get(plain(0, 0), plain(LARGEST, 0), 0));
-    let t = t.with(pair_gets(below_zero(2), plain(0, 0), 0));
-    let t = t.with(pair_gets(plain(0, 2), below_zero(0), 6));
-    let t = t.with(pair_gets(below_zero(2), below_zero(0), 6));
-    t.with(pair_gets(plain(0, 2), plain(LARGEST, 0), 0))
+    t.with_all(&[
+        nodes_get(below_zero(0), plain(0, 0), 0),
+        nodes_get(plain(0, 0), below_zero(0), 4),
+        nodes_get(below_zero(0), below_zero(0), 4),
+        nodes_get(plain(0, 0), plain(LARGEST, 0), 0),
+        pair_gets(below_zero(2), plain(0, 0), 0),
+        pair_gets(plain(0, 2), below_zero(0), 6),
+        pair_gets(below_zero(2), below_zero(0), 6),
+        pair_gets(plain(0, 2), plain(LARGEST, 0), 0),
+    ])
 }
 
 // A child count of 0, reached or not; a node total of 0; a total that is the singleton or the chain alone.
 fn totals(t: Tally) -> Tally {
-    let t = t.with(node_gets(plain(0, 1), counts_nothing(0), 7));
-    let t = t.with(node_gets(plain(0, 0), counts_nothing(0), 7));
-    let t = t.with(node_gets(counts_nothing(0), plain(0, 0), 7));
-    let t = t.with(node_gets(plain(0, 0), plain(0, 0), 0));
-    t.with(node_gets(counts_nothing(1), plain(0, 0), 0))
+    t.with_all(&[
+        node_gets(plain(0, 1), counts_nothing(0), 7),
+        node_gets(plain(0, 0), counts_nothing(0), 7),
+        node_gets(counts_nothing(0), plain(0, 0), 7),
+        node_gets(plain(0, 0), plain(0, 0), 0),
+        node_gets(counts_nothing(1), plain(0, 0), 0),
+    ])
 }
 
 // Two tables of one length whose entry at 1 is x get this number.
 fn tables_get(zeroth: f64, x: f64, wanted: u32) -> bool {
     let g = [zeroth, x];
     let d = [0.0, 0.0];
-    checked_number(check_tables(&g, &d)) == wanted && checked_number(check_tables(&d, &g)) == wanted
+    number_of(LentTables { g: &g, d: &d }.check()) == wanted
+        && number_of(LentTables { g: &d, d: &g }.check()) == wanted
 }
 
 // Tables of these two lengths, all zeros, get this number.
 fn lengths_get(n: usize, m: usize, wanted: u32) -> bool {
     let zeros = [0.0f64; 4];
-    checked_number(check_tables(first_of(&zeros, n), first_of(&zeros, m))) == wanted
+    let tables = LentTables {
+        g: first_of(&zeros, n),
+        d: first_of(&zeros, m),
+    };
+    number_of(tables.check()) == wanted
 }
 
 // Lengths 0, 1 and 2, and unequal ones; entries at -2^40 and 2^40 and beyond; NaN where it is never read, and at 1.
 fn tables(t: Tally) -> Tally {
-    let zero = 0.0;
-    let infinity = 1.0 / zero;
-    let nan = infinity - infinity;
-    let t = t.with(lengths_get(0, 0, 1));
-    let t = t.with(lengths_get(1, 1, 1));
-    let t = t.with(lengths_get(2, 2, 0));
-    let t = t.with(lengths_get(2, 3, 1));
-    let t = t.with(tables_get(0.0, HIGHEST, 0));
-    let t = t.with(tables_get(0.0, -HIGHEST, 0));
-    let t = t.with(tables_get(0.0, BEYOND, 2));
-    let t = t.with(tables_get(0.0, -BEYOND, 2));
-    let t = t.with(tables_get(0.0, infinity, 2));
-    let t = t.with(tables_get(0.0, -infinity, 2));
-    let t = t.with(tables_get(nan, 0.0, 0));
-    t.with(tables_get(0.0, nan, 2))
-}
-
-// The most records that a size names, in order.
-fn fill(nodes: &mut [u8], children: &mut [u8]) {
-    put_all(nodes, 4097, 0);
-    put_all(children, 16385, 0);
+    t.with_all(&[
+        lengths_get(0, 0, 1),
+        lengths_get(1, 1, 1),
+        lengths_get(2, 2, 0),
+        lengths_get(2, 3, 1),
+        tables_get(0.0, HIGHEST, 0),
+        tables_get(0.0, -HIGHEST, 0),
+        tables_get(0.0, BEYOND, 2),
+        tables_get(0.0, -BEYOND, 2),
+        tables_get(0.0, f64::INFINITY, 2),
+        tables_get(0.0, f64::NEG_INFINITY, 2),
+        tables_get(f64::NAN, 0.0, 0),
+        tables_get(0.0, f64::NAN, 2),
+    ])
 }
 
 pub fn run() -> Tally {
-    let mut nodes = [0u8; 65552];
-    let mut children = [0u8; 262160];
-    fill(&mut nodes, &mut children);
-    tables(totals(orders(links(sizes(Tally::new(), &nodes, &children)))))
+    let mut nodes = [[0u8; RECORD_SIZE]; 4097];
+    let mut children = [[0u8; RECORD_SIZE]; 16385];
+    put_all(&mut nodes, 0);
+    put_all(&mut children, 0);
+    let t = sizes(Tally::new(), nodes.as_flattened(), children.as_flattened());
+    tables(totals(orders(links(t))))
 }

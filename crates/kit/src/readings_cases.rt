@@ -1,132 +1,83 @@
-// Replays readings.bin, tidies.bin and batches.bin: lists of openings, adds, lists of paths, tidies and readings on one tracker, every
-// answer, every output place afterwards, and at the end every byte of book and queue.
-use crate::calls_cases::{
-    Play, add_call, batch_call, broken, fill_both, moved, nothing_open, open_call, same_end,
-    tidy_call,
-};
+// Replays calls.bin, large.bin, readings.bin, tidies.bin and batches.bin: lists of openings, adds, lists of paths, tidies and readings on
+// one tracker, every answer, every output place afterwards, and at the end every byte of book and queue.
+use crate::calls_cases::Play;
+use crate::figures::bring;
 use crate::kl_calls::{all_call, node_call, stats_call};
-use crate::tallies::Tally;
-use crate::tape::{after_bytes, after_case, after_figures, forward, part, word};
+use crate::tallies::{self, Tally};
+use crate::tape::Place;
 use crate::vector_calls::{evidence_call, vector_call};
+use priors::lookups::LentPriors;
+use priors::tables::LentTables;
 
-// The letters TPR1, TPY1 and TPB1.
-pub const READINGS: u32 = 827478100;
-
-pub const TIDIES: u32 = 827936852;
-
-pub const BATCHES: u32 = 826429524;
-
-// The play, and the places of the tables and of the priors that readings are lent.
+// What readings are lent, once a list has said so: the place of the tables, and the priors.
 #[derive(Clone, Copy)]
-struct Lending {
-    play: Play,
-    tables: usize,
-    priors: usize,
+struct Lending<'a> {
+    tables: Option<Place<'a>>,
+    priors: Option<LentPriors<'a>>,
 }
 
-fn lent(play: Play, tables: usize, priors: usize) -> Lending {
-    Lending {
-        play,
-        tables,
-        priors,
-    }
+// Figures that are not read now.
+fn pass_figures(at: &mut Place) {
+    let n = at.count();
+    at.take(8 * n);
 }
 
 // A reading, by its kind.
-fn reading(kind: u32, l: Lending, tape: &[u8], book: &[u8], queue: &[u8]) -> Play {
-    let p = l.play;
-    if kind == 5 {
-        return vector_call(p, tape, l.priors, book, queue);
+fn reading(kind: u32, p: &Play, lending: &Lending, at: &mut Place) -> Option<bool> {
+    let mut g = [0.0f64; 128];
+    let mut d = [0.0f64; 128];
+    let mut tables = lending.tables?;
+    let g = bring(&mut tables, &mut g)?;
+    let d = bring(&mut tables, &mut d)?;
+    let priors = lending.priors?;
+    let tables = LentTables { g, d };
+    match kind {
+        5 => vector_call(p, &priors, at),
+        6 => evidence_call(p, at),
+        7 => Some(node_call(p, &tables, &priors, at)),
+        8 => all_call(p, &tables, &priors, at),
+        9 => Some(stats_call(p, &tables, &priors, at)),
+        _ => None,
     }
-    if kind == 6 {
-        return evidence_call(p, tape, book, queue);
-    }
-    if kind == 7 {
-        return node_call(p, tape, l.tables, l.priors, book, queue);
-    }
-    if kind == 8 {
-        return all_call(p, tape, l.tables, l.priors, book, queue);
-    }
-    if kind == 9 {
-        return stats_call(p, tape, l.tables, l.priors, book, queue);
-    }
-    broken(p)
 }
 
-// The next call, by its kind: 3 and 4 say what readings are lent from there on.
-fn call(l: Lending, tape: &[u8], book: &mut [u8], queue: &mut [u8]) -> Lending {
-    let start = l.play;
-    let kind = word(tape, start.at);
-    let at = forward(start.at, 1);
-    let p = moved(start, at);
-    if kind == 1 {
-        return lent(open_call(p, tape, book, queue), l.tables, l.priors);
+// The next call, by its kind: 3 and 4 say what readings are lent from there on. Kinds are numbers of the file that are told apart here and
+// in `reading` alone, so they have no enum.
+fn call<'a>(p: &mut Play, lending: &mut Lending<'a>, at: &mut Place<'a>) -> Option<bool> {
+    match at.word() {
+        1 => p.open(at),
+        2 => p.add_path(at),
+        3 => {
+            lending.tables = Some(*at);
+            pass_figures(at);
+            pass_figures(at);
+            Some(true)
+        }
+        4 => {
+            lending.priors = Some(at.priors());
+            Some(true)
+        }
+        10 => p.tidy(at),
+        11 => p.add_paths(at),
+        kind => reading(kind, p, lending, at),
     }
-    if kind == 2 {
-        return lent(add_call(p, tape, book, queue), l.tables, l.priors);
-    }
-    if kind == 3 {
-        let after = after_figures(tape, after_figures(tape, at));
-        return lent(moved(p, after), at, l.priors);
-    }
-    if kind == 4 {
-        let after = forward(after_bytes(tape, after_bytes(tape, at)), 1);
-        return lent(moved(p, after), l.tables, at);
-    }
-    if kind == 10 {
-        return lent(tidy_call(p, tape, book, queue), l.tables, l.priors);
-    }
-    if kind == 11 {
-        return lent(batch_call(p, tape, book, queue), l.tables, l.priors);
-    }
-    let read = reading(
-        kind,
-        lent(p, l.tables, l.priors),
-        tape,
-        part(book, 0, p.book_len),
-        part(queue, 0, p.queue_len),
-    );
-    lent(read, l.tables, l.priors)
 }
 
-// All calls of a list, whose number stands at a place.
-fn played(tape: &[u8], at: usize, book: &mut [u8], queue: &mut [u8]) -> Play {
-    let n = word(tape, at);
-    let mut l = lent(nothing_open(forward(at, 1)), 0, 0);
-    let mut i = 0;
-    while i < n {
-        l = call(l, tape, book, queue);
-        i += 1;
+// A list of calls.
+fn same_case(case: &mut Place, book: &mut [u8], queue: &mut [u8]) -> Option<bool> {
+    let mut p = Play::new(case, book, queue);
+    let mut lending = Lending {
+        tables: None,
+        priors: None,
+    };
+    for _ in 0..case.word() {
+        if !call(&mut p, &mut lending, case)? {
+            return Some(false);
+        }
     }
-    l.play
+    Some(p.same_end(case))
 }
 
-// The case that stands at a place.
-fn same_case(tape: &[u8], at: usize, book: &mut [u8], queue: &mut [u8]) -> bool {
-    fill_both(tape, forward(at, 1), book, queue);
-    let p = played(tape, forward(at, 2), book, queue);
-    p.agrees
-        && same_end(
-            tape,
-            p.at,
-            after_case(tape, at),
-            part(book, 0, p.book_len),
-            part(queue, 0, p.queue_len),
-        )
-}
-
-pub fn replay(tape: &[u8], magic: u32, book: &mut [u8], queue: &mut [u8]) -> Tally {
-    let mut tally = Tally::new();
-    if word(tape, 0) != magic {
-        return tally;
-    }
-    let n = word(tape, 1);
-    let mut at = 2;
-    let mut i = 0;
-    while i < n {
-        tally = tally.with(same_case(tape, at, book, queue));
-        at = after_case(tape, at);
-        i += 1;
-    }
-    tally
+pub fn replay(tape: &[u8], letters: &[u8; 4], book: &mut [u8], queue: &mut [u8]) -> Tally {
+    tallies::replay(tape, letters, |case| same_case(case, book, queue))
 }

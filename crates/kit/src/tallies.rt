@@ -1,17 +1,11 @@
-use std::io;
+use crate::tape::Place;
+use std::fmt;
 
 // How many cases were tried, and how many of them came out otherwise than they should.
 #[derive(Clone, Copy)]
 pub struct Tally {
-    pub cases: u32,
-    pub differ: u32,
-}
-
-fn one_more(n: u32) -> u32 {
-    if n < 4294967295 {
-        return n + 1;
-    }
-    n
+    cases: u32,
+    differ: u32,
 }
 
 impl Tally {
@@ -23,22 +17,44 @@ impl Tally {
     }
 
     // One case more, which agrees or not.
-    pub fn with(self, agrees: bool) -> Tally {
-        let cases = one_more(self.cases);
-        let differ = self.differ;
-        if agrees {
-            return Tally { cases, differ };
-        }
+    fn with(self, agrees: bool) -> Tally {
         Tally {
-            cases,
-            differ: one_more(differ),
+            cases: self.cases.saturating_add(1),
+            differ: self.differ.saturating_add(u32::from(!agrees)),
         }
     }
 
-    // Prints the tally on a line of its own, after a name.
-    pub fn print(self, rt: &impl Print, name: &str) -> io::Result<()> {
-        let cases = self.cases;
-        let differ = self.differ;
-        println!(rt; "{name}: {cases} cases, {differ} differ")
+    pub fn with_all(self, agree: &[bool]) -> Tally {
+        agree.iter().fold(self, |tally, &agrees| tally.with(agrees))
     }
+}
+
+impl fmt::Display for Tally {
+    fn fmt<W: fmt::Write>(&self, f: &mut fmt::Formatter<W>) -> fmt::Result {
+        write!(f, "{} cases, {} differ", self.cases, self.differ)
+    }
+}
+
+// Replays each case of a tape that begins with these letters. A case for which there is no answer, since it is cut off or holds what no
+// file does, does not agree either.
+pub fn replay<F: FnMut(&mut Place) -> Option<bool>>(
+    tape: &[u8],
+    letters: &[u8; 4],
+    mut same_case: F,
+) -> Tally
+    requires { F.IsAlwaysCallable same_case }
+{
+    let mut at = Place::start(tape);
+    let mut tally = Tally::new();
+    if at.word() != u32::from_le_bytes(*letters) {
+        return tally;
+    }
+    for _ in 0..at.word() {
+        let agrees = match at.case() {
+            Some(mut case) => same_case(&mut case),
+            None => None,
+        };
+        tally = tally.with(agrees.unwrap_or(false));
+    }
+    tally
 }

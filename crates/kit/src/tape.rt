@@ -1,69 +1,85 @@
-// A recorded file, read as 32-bit words. A place is the number of a word; a piece of data/README.md stands at a place, and the
-// piece after it at another. All is total: past the end words are 0 and bytes are missing, so a broken file shows as a difference.
-ghost use Rattle.std.specs.Prelude.{◌≤◌};
+// A recorded file, read as 32-bit words. All is total: past the end words are 0 and bytes are missing, so a broken file shows as a
+// difference.
+ghost use Rattle.std.specs.Prelude.{◌^◌, ◌<◌};
 
-use priors::words::read_u32;
+use priors::addresses::{Address, rank};
+use priors::lookups::LentPriors;
 
-// No place is past this one; the files are far shorter.
-const LAST: usize = 1048576;
+// A place in a tape, counted in bytes. Each piece of data/README.md that is read there moves it on to the next. Where a piece differs
+// from what it should be, its case is over, and no more of it is read.
+#[derive(Clone, Copy)]
+pub struct Place<'a> {
+    tape: &'a [u8],
+    at: usize,
+}
 
-// The word at a place; 0 past the end.
-pub fn word(tape: &[u8], at: usize) -> u32 {
-    if tape.len() / 4 <= at {
-        return 0;
+// The first n, or all where there are fewer.
+pub fn first_of<T>(s: &[T], n: usize) -> &[T] {
+    s.get(..n).unwrap_or(s)
+}
+
+impl<'a> Place<'a> {
+    pub fn start(tape: &'a [u8]) -> Place<'a> {
+        Place { tape, at: 0 }
     }
-    read_u32(tape, 4 * at)
-}
 
-// The place n words on.
-pub fn forward(at: usize, n: usize) -> usize
-    ensures { result ≤ 1048576 }
-{
-    if LAST <= at {
-        return LAST;
+    // The next n bytes, fewer where the tape ends before.
+    pub fn take(&mut self, n: usize) -> &'a [u8] {
+        let rest = self.tape.get(self.at..).unwrap_or(&[]);
+        self.at = self.at.saturating_add(n);
+        first_of(rest, n)
     }
-    if LAST - at <= n {
-        return LAST;
+
+    pub fn word(&mut self) -> u32 {
+        self.take(4)
+            .first_chunk()
+            .map_or(0, |bytes| u32::from_le_bytes(*bytes))
     }
-    at + n
-}
 
-// Up to n bytes from `from`: fewer where s ends before.
-pub fn part(s: &[u8], from: usize, n: usize) -> &[u8] {
-    if s.len() <= from {
-        return &s[..0];
+    // A word that says how many follow.
+    pub fn count(&mut self) -> usize
+        ensures { result < 2 ^ 32 }
+    {
+        self.word() as usize
     }
-    if s.len() - from <= n {
-        return &s[from..];
+
+    pub fn bytes(&mut self) -> &'a [u8] {
+        let n = self.count();
+        first_of(self.take(n.next_multiple_of(4)), n)
     }
-    let to = from + n;
-    &s[from..to]
-}
 
-// The bytes that stand at a place.
-pub fn bytes_at(tape: &[u8], at: usize) -> &[u8] {
-    part(tape, 4 * forward(at, 1), word(tape, at) as usize)
-}
+    // So many words that are all 0.
+    pub fn zeros(&mut self, words: usize) -> bool {
+        (0..words).all(|_| self.word() == 0)
+    }
 
-// The place after the bytes that stand at a place.
-pub fn after_bytes(tape: &[u8], at: usize) -> usize {
-    let n = word(tape, at) as usize;
-    forward(at, 1 + (n + 3) / 4)
-}
+    // A case, as a tape of its own, if all of it is there.
+    pub fn case(&mut self) -> Option<Place<'a>> {
+        let n = 4 * self.count();
+        let case = self.take(n);
+        (case.len() == n).then_some(Place::start(case))
+    }
 
-// The place after the figures that stand at a place.
-pub fn after_figures(tape: &[u8], at: usize) -> usize {
-    let n = word(tape, at) as usize;
-    forward(at, 1 + 2 * n)
-}
+    // All was read, and no more than there is.
+    pub fn is_at_end(&self) -> bool {
+        self.at == self.tape.len()
+    }
 
-// The place after the numbers that stand at a place.
-pub fn after_numbers(tape: &[u8], at: usize) -> usize {
-    let n = word(tape, at) as usize;
-    forward(at, 1 + n)
-}
+    // The rank of an address.
+    pub fn rank(&mut self) -> u64 {
+        let bits = self.word();
+        rank(bits, self.word())
+    }
 
-// The place after the case that stands at a place.
-pub fn after_case(tape: &[u8], at: usize) -> usize {
-    after_numbers(tape, at)
+    pub fn address(&mut self) -> Address {
+        Address::from_rank(self.rank())
+    }
+
+    pub fn priors(&mut self) -> LentPriors<'a> {
+        LentPriors {
+            nodes: self.bytes(),
+            children: self.bytes(),
+            floor: self.word().cast_signed(),
+        }
+    }
 }

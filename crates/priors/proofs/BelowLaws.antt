@@ -1,12 +1,14 @@
 -- What a scan over indices shows: a test that holds at each index passed holds below, one that fails anywhere fails for all; and what stands in a list of
 -- values. Assumes nothing.
-use mathlib.Core.Path.{◌≡◌, refl, ap, ◌∙◌}
+use mathlib.Core.Path.{◌≡◌, refl, sym, ap, ◌∙◌}
 use mathlib.Core.Logic.{⊎_elim}
-use mathlib.Core.Bool.{Bool, true, false, ◌&&◌}
-use Prim.Native.Nat.{ℕ, zero, suc, ◌<◌}
+use mathlib.Core.Bool.{Bool, true, false, true≢false, ◌&&◌}
+use Prim.Native.Nat.{ℕ, zero, suc, ◌≤◌, ◌<◌}
 use native.Mathlib.Omega.{arith}
+use mathlib.Core.List.{List, [], ◌∷◌}
 use lib.ListN.{length, get_or}
-use Rattle.priors.specs.Below.{all_below, list_of}
+use Rattle.std.specs.List.{list_all}
+use Rattle.priors.specs.Below.{all_below, list_of, Falls}
 use Rattle.priors.proofs.Tests.{split}
 
 -- ---- two tests as one
@@ -60,3 +62,33 @@ pub get_d_list_of : {X : Type 0} (n : ℕ) (f : ℕ → X) (i : ℕ) (d : X) →
 get_d_list_of zero f i d h = absurd (omega arith)
 get_d_list_of (suc n) f zero d h = refl
 get_d_list_of (suc n) f (suc i) d h = get_d_list_of n (λ j. f (suc j)) i d (omega arith)
+
+-- where a test falls once, it fails from an index on where it fails there
+pub fails_on : (f : ℕ → Bool) (n : ℕ) → Falls f n → (m i : ℕ) → m ≤ i → i < n → f m ≡ false → f i ≡ false
+fails_on f n falls m i l h e = go (f i) refl
+  where
+    go : (b : Bool) → f i ≡ b → f i ≡ false
+    go false d = d
+    go true d = absurd (true≢false (sym (falls m i l h d) ∙ e))
+
+-- ---- the elements of a list
+
+and_assoc : (a b d : Bool) → (a && b) && d ≡ a && (b && d)
+and_assoc true b d = refl
+and_assoc false b d = refl
+
+-- a test at the first index, and at those after it
+all_front : (n : ℕ) (f : ℕ → Bool) → f 0 && all_below n (λ i. f (suc i)) ≡ all_below (suc n) f
+unfolding all_below
+all_front zero f = ends (f 0)
+  where
+    ends : (b : Bool) → b && true ≡ true && b
+    ends true = refl
+    ends false = refl
+all_front (suc n) f = sym (and_assoc (f 0) (all_below n (λ i. f (suc i))) (f (suc n))) ∙ ap (λ (b : Bool). b && f (suc n)) (all_front n f)
+
+-- a test of each element is a test at each index
+pub list_all_at : {X : Type 0} (p : X → Bool) (d : X) (xs : List X) → list_all p xs ≡ all_below (length xs) (λ i. p (get_or xs i d))
+unfolding all_below
+list_all_at p d [] = refl
+list_all_at p d (x ∷ xs) = ap (λ (b : Bool). p x && b) (list_all_at p d xs) ∙ all_front (length xs) (λ i. p (get_or (x ∷ xs) i d))

@@ -6,7 +6,7 @@ use native.Mathlib.Nat.{zero-add, add-suc}
 use native.Mathlib.Numerals.{one-add}
 use native.Mathlib.Omega.{arith}
 use mathlib.Core.List.{List, [], ◌∷◌, ◌++◌}
-use mathlib.Core.Option.{Option, none, some}
+use Rattle.std.specs.Prelude.{Option, None, Some}
 use mathlib.Core.Bool.{Bool, true, false, cond}
 use lib.Dec.{ltb, leb-suc-suc}
 use lib.ListN.{length, get_or, set, take, drop}
@@ -43,27 +43,27 @@ spot_lt (later l s) = suc-le-suc (spot_lt s)
 
 -- ---- what a look-up finds, by place
 
-pub look_spot : (k : ℕ) {rs : List Row} {i : ℕ} {b : Bool} → Spot k rs i b → look k rs ≡ cond b (some (get_or rs i blank).count) none
+pub look_spot : (k : ℕ) {rs : List Row} {i : ℕ} {b : Bool} → Spot k rs i b → look k rs ≡ cond b (Some (get_or rs i blank).count) None
 unfolding look
 look_spot k end = refl
 look_spot k (before {r} l) = rw (compare_lt k r.key l)
 look_spot k (here {r} q) = rw (q, compare_self r.key)
 look_spot k (later {r} l s) = rw (compare_gt k r.key l) (look_spot k s)
 
-pub look_place : (k : ℕ) (rs : List Row) → look k rs ≡ cond (holds rs (place rs k) k) (some (get_or rs (place rs k) blank).count) none
+pub look_place : (k : ℕ) (rs : List Row) → look k rs ≡ cond (holds rs (place rs k) k) (Some (get_or rs (place rs k) blank).count) None
 look_place k rs = look_spot k (spot k rs)
 
 -- ---- a change, by place
 
 -- a row that comes in moves the place of a key above it one up
-pub spot_moved : (c : ℕ) (step : ℕ → ℕ) (j k : ℕ) → j < k → {rs : List Row} {i : ℕ} {b : Bool} → Spot k rs i b → Spot k (change (some c) step j rs) (gained (look j rs) (some c) + i) b
+pub spot_moved : (c : ℕ) (step : ℕ → ℕ) (j k : ℕ) → j < k → {rs : List Row} {i : ℕ} {b : Bool} → Spot k rs i b → Spot k (change (Some c) step j rs) (gained (look j rs) (Some c) + i) b
 unfolding look change
 spot_moved c step j k h end = later h end
 spot_moved c step j k h (before {r} l) = rw (compare_lt j r.key (omega arith)) (later h (before l))
 spot_moved c step j k h (here {r} q) = rw (compare_lt j r.key (omega arith)) (later h (here q))
 spot_moved c step j k h (later {r} {rs} {i} {b} l s) = go (side j r.key) (spot_moved c step j k h s)
   where
-    go : Side j r.key → Spot k (change (some c) step j rs) (gained (look j rs) (some c) + i) b → Spot k (change (some c) step j (r ∷ rs)) (gained (look j (r ∷ rs)) (some c) + suc i) b
+    go : Side j r.key → Spot k (change (Some c) step j rs) (gained (look j rs) (Some c) + i) b → Spot k (change (Some c) step j (r ∷ rs)) (gained (look j (r ∷ rs)) (Some c) + suc i) b
     go (below m e) ih = rw (e, one-add) (later h (later l s))
     go (same q e) ih = rw (e, zero-add) (later l s)
     go (above m e) ih = rw (e, add-suc) (later l ih)

@@ -11,7 +11,7 @@ use lib.ListN.{length}
 use borrow.Author.Tests.{eqb-true, ltb-true, leb-true}
 use Rattle.priors.specs.Rows.{row}
 use Rattle.priors.specs.declared.records.Record.{Record}
-use Rattle.priors.specs.Priors.{record_at, record_count, chain, chain_of, children_of, count_sum, every_child, next_link_fits}
+use Rattle.priors.specs.Priors.{record_at, record_count, chain, chain_of, children_of, count_sum, every_node, every_child, first_link_fits, next_link_fits}
 use Rattle.priors.proofs.BelowLaws.{all_at, first_true, second_true}
 
 -- where a record goes on: nowhere, or to a later one
@@ -85,3 +85,8 @@ module _ (children : List ℕ) (rising : every_child children (next_link_fits ch
   chain_counts link h l =
       let on : count_sum (children_of children link) ≡ (record_at children (link - 1)).count + count_sum (children_of children (record_at children (link - 1)).link) = ap count_sum (rows_step link h l) in
       omega arith
+
+-- where first links fit, a node's is 0 or a record's number
+pub first_small : (nodes children : List ℕ) → every_node nodes (first_link_fits nodes children) ≡ true → (i : ℕ) → i < record_count nodes → (record_at nodes i).link ≤ record_count children
+unfolding first_link_fits
+first_small nodes children fit i l = leb-true (record_at nodes i).link (record_count children) (all_at (first_link_fits nodes children) (record_count nodes) i fit l)

@@ -5,7 +5,7 @@ use Prim.Native.Nat.{ℕ, suc, ◌<◌, zero-le}
 use native.Mathlib.Omega.{arith}
 use mathlib.Core.Bool.{true}
 use mathlib.Core.List.{List, [], ◌∷◌, map}
-use mathlib.Core.Option.{none}
+use Rattle.std.specs.Prelude.{None}
 use lib.Dec.{ltb}
 use borrow.Author.Tests.{eq-eqb, ne_eqb, ltb-true}
 use Rattle.priors.specs.declared.records.Record.{Record}
@@ -15,7 +15,7 @@ use Rattle.priors.proofs.Tests.{both}
 use Rattle.priors.proofs.Orders.{Side, below, same, above, side}
 
 -- a key below all is not there
-count_low : (k a : ℕ) (rs : List Row) → k < a → Ascends a (keys rs) → count_of k rs ≡ none
+count_low : (k a : ℕ) (rs : List Row) → k < a → Ascends a (keys rs) → count_of k rs ≡ None
 unfolding count_of
 count_low k a [] l h = refl
 count_low k a (r ∷ rs) l h = rw (ne_eqb r.key k (λ e. omega arith)) (count_low k (suc r.key) rs (omega arith) h.1)

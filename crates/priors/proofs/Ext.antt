@@ -4,13 +4,13 @@
 use mathlib.Core.Path.{◌≡◌, refl, sym, ◌∙◌}
 use Prim.Native.Nat.{ℕ, suc, ◌≤◌, ◌<◌}
 use mathlib.Core.List.{List, [], ◌∷◌}
-use mathlib.Core.Option.{Option, none, some}
+use Rattle.std.specs.Prelude.{Option, None, Some}
 use native.Mathlib.Omega.{arith}
 use Rattle.priors.specs.Rows.{Row, keys, Ascends, look}
 use Rattle.priors.proofs.Orders.{Side, below, same, above, side, compare_lt, compare_gt, compare_self}
 
 -- the first row is found
-pub look_first : (r : Row) (rs : List Row) → look r.key (r ∷ rs) ≡ some r.count
+pub look_first : (r : Row) (rs : List Row) → look r.key (r ∷ rs) ≡ Some r.count
 unfolding look
 look_first r rs = rw (compare_self r.key)
 
@@ -20,13 +20,13 @@ unfolding look
 look_rest k r rs l = rw (compare_gt k r.key l)
 
 -- a key below all is not found
-pub look_low : (k a : ℕ) (rs : List Row) → k < a → Ascends a (keys rs) → look k rs ≡ none
+pub look_low : (k a : ℕ) (rs : List Row) → k < a → Ascends a (keys rs) → look k rs ≡ None
 unfolding look
 look_low k a [] l h = refl
 look_low k a (r ∷ rs) l h = rw (compare_lt k r.key (omega arith))
 
 -- what is found is not missing
-pub never : (c : ℕ) (o : Option ℕ) → o ≡ some c → o ≡ none → ⊥
+pub never : (c : ℕ) (o : Option ℕ) → o ≡ Some c → o ≡ None → ⊥
 never c o p q = let z : ◌≡◌ {A = ℕ} 0 1 = cc in omega arith
 
 same_row : (r s : Row) → r.key ≡ s.key → r.count ≡ s.count → r ≡ s
@@ -42,7 +42,7 @@ ext a (x ∷ xs) (y ∷ ys) p q h = go (side x.key y.key) (ext (suc x.key) xs ys
     go (below l e) ih = absurd (never _ _ (look_first x xs) (h x.key ∙ look_low x.key y.key (y ∷ ys) l (omega arith, q.1)))
     go (above l e) ih = absurd (never _ _ (look_first y ys) (sym (h y.key) ∙ look_low y.key x.key (x ∷ xs) l (omega arith, p.1)))
     go (same k-is e) ih =
-        let counts : some x.count ≡ some y.count = sym (look_first x xs) ∙ h x.key ∙ rw k-is (look_first y ys) in
+        let counts : Some x.count ≡ Some y.count = sym (look_first x xs) ∙ h x.key ∙ rw k-is (look_first y ys) in
         let first : x ≡ y = same_row x y k-is cc in
         let rest : xs ≡ ys = ih (rw k-is q.1) (λ k. agree k (side x.key k)) in
         cc

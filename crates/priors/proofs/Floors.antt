@@ -4,7 +4,7 @@ use mathlib.Core.Logic.{⊎_elim}
 use Prim.Native.Nat.{ℕ, zero, suc, ◌+◌, ◌*◌, ◌^◌, ◌<◌}
 use mathlib.Core.Bool.{Bool, true, false, cond, not, ◌&&◌}
 use mathlib.Core.List.{List, [], ◌∷◌}
-use mathlib.Core.Option.{Option, some, map}
+use Rattle.std.specs.Prelude.{Option, Some, option_map}
 use lib.Dec.{eqb, ltb}
 use lib.IntN.{ℤ, pos, negsuc, pred_ℤ, neg_ℤ, ◌+ℤ◌, ◌-ℤ◌, pred_ℤ-+ℤ, +ℤ_invr, +ℤ-neg_ℤ_cancel, -ℤ-+ℤ_cancel}
 use lib.Signed.{lt_z}
@@ -136,8 +136,8 @@ pub prior_is : PriorIsThatFound
 unfolding prior_of
 prior_is nodes children layer rank passed =
     let ok = accepted nodes children layer passed in (
-      λ i l e. ap (map (prior_of_node children)) (found_one nodes layer rank ok.records_fit.ordered ok.apart i l e),
-      λ h. ap (map (prior_of_node children)) (found_no nodes layer rank h),
+      λ i l e. ap (option_map (prior_of_node children)) (found_one nodes layer rank ok.records_fit.ordered ok.apart i l e),
+      λ h. ap (option_map (prior_of_node children)) (found_no nodes layer rank h),
     )
 
 pub shared_point : SharedPoint
@@ -158,7 +158,7 @@ exact : (rank : ℕ) (rs : List Record) → find_record 0 rank rs ≡ exact_reco
 unfolding find_record exact_record
 exact rank [] = refl
 exact rank (r ∷ rs) =
-    rw (found_high 0 rank r.rank (omega arith)) (ap (λ (o : Option Record). cond (eqb r.rank rank) (some r) o) (exact rank rs))
+    rw (found_high 0 rank r.rank (omega arith)) (ap (λ (o : Option Record). cond (eqb r.rank rank) (Some r) o) (exact rank rs))
 
 -- 22 is passed, so that only the records' rules are left
 no_rule : (nodes children : List ℕ) → priors_refusal nodes children 0 ≡ records_refusal nodes children
@@ -171,6 +171,6 @@ no_rule nodes children = go (records_refusal nodes children) refl
 pub least_floor_lem : LeastFloor
 unfolding prior_of
 least_floor_lem nodes children rank = (
-  ap (λ (layer : ℕ). map (prior_of_node children) (find_record layer rank (records nodes))) no_scales ∙ ap (map (prior_of_node children)) (exact rank (records nodes)),
+  ap (λ (layer : ℕ). option_map (prior_of_node children) (find_record layer rank (records nodes))) no_scales ∙ ap (option_map (prior_of_node children)) (exact rank (records nodes)),
   ap (priors_refusal nodes children) no_scales ∙ no_rule nodes children,
 )

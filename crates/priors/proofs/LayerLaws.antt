@@ -6,7 +6,7 @@ use mathlib.Core.Bool.{Bool, true, false, not, ◌&&◌}
 use Prim.Native.Nat.{ℕ, zero, suc, ◌+◌, ◌*◌, ◌/◌, ◌%◌, ◌^◌, ◌≤◌, ◌<◌}
 use native.Mathlib.Omega.{arith}
 use mathlib.Core.List.{List, [], ◌∷◌}
-use mathlib.Core.Option.{none, some}
+use Rattle.std.specs.Prelude.{None, Some}
 use lib.Dec.{ltb, eqb}
 use lib.IntN.{ℤ}
 use lib.ListN.{length, get_or}
@@ -18,7 +18,7 @@ use borrow.Author.Tests.{ltb-true, lt-ltb, le-ltb, eqb-true, eq-eqb}
 use Rattle.priors.specs.declared.records.Record.{Record}
 use Rattle.priors.specs.Address.{rank, rank_of, lift}
 use Rattle.priors.specs.Priors.{record_at, record_count, records, ascends, layer_of, in_layer, point_of, one_point, found_by, find_record, clear_before, points_differ}
-use Rattle.priors.specs.Layer.{floor_of, FirstFrom, Absent, Nowhere, FoundAt}
+use Rattle.priors.specs.Layer.{floor_of, FirstFrom, Absent, Nowhere}
 use Rattle.priors.proofs.Tests.{split, three, both}
 use Rattle.priors.proofs.Ranks.{lift_lt, lift_back, lift_signed}
 use Rattle.priors.proofs.BelowLaws.{all_at}
@@ -119,13 +119,13 @@ module _ (s : List ℕ) (layer : ℕ) (up : ascends (records s) ≡ true) (diffe
 -- ---- what a search shows
 
 module _ (layer wanted : ℕ) where
-  found_at : (rs : List Record) (i : ℕ) → i < length rs → ((j : ℕ) → j < i → found_by layer wanted (get_or rs j no_record).rank ≡ false) → found_by layer wanted (get_or rs i no_record).rank ≡ true → find_record layer wanted rs ≡ some (get_or rs i no_record)
+  found_at : (rs : List Record) (i : ℕ) → i < length rs → ((j : ℕ) → j < i → found_by layer wanted (get_or rs j no_record).rank ≡ false) → found_by layer wanted (get_or rs i no_record).rank ≡ true → find_record layer wanted rs ≡ Some (get_or rs i no_record)
   unfolding find_record
   found_at [] i l h e = absurd (omega arith)
   found_at (r ∷ rs) zero l h e = rw e
   found_at (r ∷ rs) (suc i) l h e = rw (h 0 (omega arith)) (found_at rs i (omega arith) (λ j m. h (suc j) (omega arith)) e)
 
-  found_nowhere : (rs : List Record) → ((j : ℕ) → j < length rs → found_by layer wanted (get_or rs j no_record).rank ≡ false) → find_record layer wanted rs ≡ none
+  found_nowhere : (rs : List Record) → ((j : ℕ) → j < length rs → found_by layer wanted (get_or rs j no_record).rank ≡ false) → find_record layer wanted rs ≡ None
   unfolding find_record
   found_nowhere [] h = refl
   found_nowhere (r ∷ rs) h = rw (h 0 (omega arith)) (found_nowhere rs (λ j m. h (suc j) (omega arith)))
@@ -135,15 +135,15 @@ module _ (s : List ℕ) (layer wanted : ℕ) where
   same_answer j l = ap (λ (r : Record). found_by layer wanted r.rank) (get_d_records s j l)
 
   -- a record that fits is the one found
-  pub found_one : ascends (records s) ≡ true → points_differ s layer ≡ true → (i : ℕ) → i < record_count s → found_by layer wanted (record_at s i).rank ≡ true → find_record layer wanted (records s) ≡ some (record_at s i)
+  pub found_one : ascends (records s) ≡ true → points_differ s layer ≡ true → (i : ℕ) → i < record_count s → found_by layer wanted (record_at s i).rank ≡ true → find_record layer wanted (records s) ≡ Some (record_at s i)
   found_one up differ i l e =
       found_at layer wanted (records s) i (omega (arith, length_records s))
       (λ j m. same_answer j (omega arith) ∙ no_answer _ (λ t. omega (arith, one_found s layer up differ wanted j i (omega arith) l t e)))
       (same_answer i l ∙ e)
-      ∙ ap some (get_d_records s i l)
+      ∙ ap Some (get_d_records s i l)
 
   -- where none fits, none is found
-  pub found_no : Nowhere s layer wanted → find_record layer wanted (records s) ≡ none
+  pub found_no : Nowhere s layer wanted → find_record layer wanted (records s) ≡ None
   found_no h =
       found_nowhere layer wanted (records s) (λ j m.
       let l : j < record_count s = omega (arith, length_records s) in
@@ -152,10 +152,6 @@ module _ (s : List ℕ) (layer wanted : ℕ) where
   -- past the layer only the exact address fits
   pub none_exact : layer ≤ wanted / 2 ^ 32 → Absent s wanted → Nowhere s layer wanted
   none_exact high absent j l t = absent j l (eqb-true (record_at s j).rank wanted (sym (found_high layer wanted (record_at s j).rank high) ∙ t))
-
--- the end tells it
-pub none_found : (s : List ℕ) (layer wanted : ℕ) → Nowhere s layer wanted → FoundAt s layer wanted (record_count s)
-none_found s layer wanted h = (omega arith, (λ l. absurd (omega arith)), λ e. h)
 
 -- where the place of a rank has another, no record has it
 pub none_there : (s : List ℕ) (k at : ℕ) → ascends (records s) ≡ true → FirstFrom s 0 k at → (at < record_count s → (record_at s at).rank ≡ k → ⊥) → Absent s k

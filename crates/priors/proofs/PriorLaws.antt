@@ -5,8 +5,7 @@ use mathlib.Core.Bool.{Bool, true, false, cond}
 use Prim.Native.Nat.{ℕ, zero, suc, ◌+◌, ◌*◌, ◌%◌, ◌^◌, ◌≤◌, ◌<◌}
 use native.Mathlib.Omega.{arith}
 use mathlib.Core.List.{List, [], ◌∷◌, ◌++◌, map}
-use mathlib.Core.Option
-use mathlib.Core.Option.{Option, none, some}
+use Rattle.std.specs.Prelude.{Option, None, Some, option_map}
 use lib.Dec.{eqb, leb, ltb}
 use lib.ListN.{length, get_or}
 use borrow.Author.Tests.{leb-true, ltb-true}
@@ -93,18 +92,18 @@ accepted nodes children layer h = go (records_refusal nodes children) refl
 
 -- ---- a record that is found is one of the list
 
-found_in : (layer k : ℕ) (rs : List Record) (r : Record) → find_record layer k rs ≡ some r → (i : ℕ) × ((i < length rs) × (get_or rs i no_record ≡ r))
+found_in : (layer k : ℕ) (rs : List Record) (r : Record) → find_record layer k rs ≡ Some r → (i : ℕ) × ((i < length rs) × (get_or rs i no_record ≡ r))
 unfolding find_record
 found_in layer k [] r h = let z : ◌≡◌ {A = ℕ} 0 1 = cc in absurd (omega arith)
 found_in layer k (x ∷ rs) r h = go (found_by layer k x.rank) h (found_in layer k rs r)
   where
-    go : (b : Bool) → cond b (some x) (find_record layer k rs) ≡ some r → (find_record layer k rs ≡ some r → (i : ℕ) × ((i < length rs) × (get_or rs i no_record ≡ r)))
+    go : (b : Bool) → cond b (Some x) (find_record layer k rs) ≡ Some r → (find_record layer k rs ≡ Some r → (i : ℕ) × ((i < length rs) × (get_or rs i no_record ≡ r)))
         → (i : ℕ) × ((i < suc (length rs)) × (get_or (x ∷ rs) i no_record ≡ r))
     go true h on = (0, (omega arith, cc))
     go false h on = let p = on h in (suc p.0, (omega (arith, p.1.0), p.1.1))
 
 -- its count is a field
-pub found_small : (nodes : List ℕ) → Bytes nodes → (layer k : ℕ) (r : Record) → find_record layer k (records nodes) ≡ some r → r.count < 2 ^ 32
+pub found_small : (nodes : List ℕ) → Bytes nodes → (layer k : ℕ) (r : Record) → find_record layer k (records nodes) ≡ Some r → r.count < 2 ^ 32
 unfolding record_at
 found_small nodes bytes layer k r h =
     let p = found_in layer k (records nodes) r h in
@@ -112,7 +111,7 @@ found_small nodes bytes layer k r h =
     rw (← is) (word_lt nodes bytes (16 * p.0 + 8))
 
 -- a rule that every node record keeps holds for one that is found
-found_keeps : (nodes : List ℕ) (test : Record → Bool) → every_node nodes (λ i. test (record_at nodes i)) ≡ true → (layer k : ℕ) (r : Record) → find_record layer k (records nodes) ≡ some r → test r ≡ true
+found_keeps : (nodes : List ℕ) (test : Record → Bool) → every_node nodes (λ i. test (record_at nodes i)) ≡ true → (layer k : ℕ) (r : Record) → find_record layer k (records nodes) ≡ Some r → test r ≡ true
 found_keeps nodes test all layer k r h =
     let p = found_in layer k (records nodes) r h in
     let l : p.0 < record_count nodes = omega (arith, length_records nodes, p.1.0) in
@@ -128,10 +127,10 @@ pub record ChainFits (children : List ℕ) (node : Record) : Type 0 where
 -- a prior with a total that is not 0, and no child's count that is
 pub record Positive (p : Counts) : Type 0 where
   pub total_positive : 0 < total p
-  pub count_positive : (k c : ℕ) → count_of k p.children ≡ some c → 0 < c
+  pub count_positive : (k c : ℕ) → count_of k p.children ≡ Some c → 0 < c
 
 module _ (nodes children : List ℕ) (layer : ℕ) (ok : Accepted nodes children layer) where
-  pub found_fits : (k : ℕ) (r : Record) → find_record layer k (records nodes) ≡ some r → ChainFits children r
+  pub found_fits : (k : ℕ) (r : Record) → find_record layer k (records nodes) ≡ Some r → ChainFits children r
   unfolding first_link_fits chain_fits chain_ascends
   found_fits k r h = record {
     link_fits = leb-true r.link (record_count children) (found_keeps nodes (λ n. leb n.link (record_count children)) ok.records_fit.firsts layer k r h);
@@ -140,26 +139,26 @@ module _ (nodes children : List ℕ) (layer : ℕ) (ok : Accepted nodes children
   }
 
   -- the records of a chain keep 7
-  chain_positive : (n link : ℕ) → link ≤ record_count children → (k c : ℕ) → count_of k (map (λ (r : Record). row r.rank r.count) (chain children n link)) ≡ some c → 0 < c
+  chain_positive : (n link : ℕ) → link ≤ record_count children → (k c : ℕ) → count_of k (map (λ (r : Record). row r.rank r.count) (chain children n link)) ≡ Some c → 0 < c
   unfolding chain count_of record_count_fits
   chain_positive zero link l k c h = let z : ◌≡◌ {A = ℕ} 0 1 = cc in absurd (omega arith)
   chain_positive (suc n) zero l k c h = let z : ◌≡◌ {A = ℕ} 0 1 = cc in absurd (omega arith)
   chain_positive (suc n) (suc i) l k c h =
       go (eqb (record_at children i).rank k) h (chain_positive n (record_at children i).link (next_small children ok.records_fit.rising i (omega arith)) k c)
     where
-      go : {rest : Option ℕ} (b : Bool) → cond b (some (record_at children i).count) rest ≡ some c → (rest ≡ some c → 0 < c) → 0 < c
+      go : {rest : Option ℕ} (b : Bool) → cond b (Some (record_at children i).count) rest ≡ Some c → (rest ≡ Some c → 0 < c) → 0 < c
       go true h on =
           let e : (record_at children i).count ≡ c = cc in
           rw e at (ltb-true 0 (record_at children i).count (all_at (record_count_fits children) (record_count children) i ok.records_fit.counts (omega arith)))
       go false h on = on h
 
-  pub prior_positive : (k : ℕ) (p : Counts) → prior_of nodes children layer k ≡ some p → Positive p
+  pub prior_positive : (k : ℕ) (p : Counts) → prior_of nodes children layer k ≡ Some p → Positive p
   unfolding prior_of total_fits chain_of
   prior_positive k p h = go (find_record layer k (records nodes)) refl h
     where
-      go : (o : Option Record) → find_record layer k (records nodes) ≡ o → Option.map (prior_of_node children) o ≡ some p → Positive p
-      go none e h = let z : ◌≡◌ {A = ℕ} 0 1 = cc in absurd (omega arith)
-      go (some r) e h =
+      go : (o : Option Record) → find_record layer k (records nodes) ≡ o → option_map (prior_of_node children) o ≡ Some p → Positive p
+      go None e h = let z : ◌≡◌ {A = ℕ} 0 1 = cc in absurd (omega arith)
+      go (Some r) e h =
           let is : prior_of_node children r ≡ p = cc in
           rw (← is)
           (record {

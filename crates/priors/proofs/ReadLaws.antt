@@ -4,13 +4,11 @@ use Prim.Native.Nat.{ℕ, zero, suc, ◌+◌, ◌-◌, ◌≤◌, ◌<◌, compa
 use native.Mathlib.Omega.{arith}
 use mathlib.Core.Bool.{true}
 use mathlib.Core.List.{List, [], ◌∷◌}
-use mathlib.Core.Option.{Option, none, some}
+use Rattle.std.specs.Prelude.{Option, None, Some}
 use lib.ListN.{length, take, length-map}
 use borrow.Author.Tests.{lt-ltb, le-ltb}
 use Rattle.priors.specs.declared.records.Record.{Record}
-use Rattle.priors.specs.declared.refusals.Refusal.{Refusal}
 use Rattle.priors.specs.Limits.{max_chain}
-use Rattle.priors.specs.Refusals.{number_of, named_node}
 use Rattle.priors.specs.Reading.{Reading, refused, answered}
 use Rattle.priors.specs.Rows.{Row, row, keys, Ascends, choose, count_of, look}
 use Rattle.priors.specs.Priors.{LentPriors, lent_priors, layer_of, record_at, record_count, records, ascends, find_record, chain_of, children_of, every_child, next_link_fits, prior_of, priors_refusal}
@@ -20,7 +18,6 @@ use Rattle.priors.proofs.Orders.{Side, below, same, above, side, compare_lt, com
 use Rattle.priors.proofs.Exactly.{rows_ascend, chain_exact}
 use Rattle.priors.proofs.ChainLaws.{rows_step}
 use Rattle.priors.proofs.PriorLaws.{accepted, found_fits}
-use Rattle.priors.proofs.RuleLaws.{priors_unnamed, unless_refused_lem}
 
 -- the rows of a walk that ends with the first one not below k
 unfoldable pub walked : ℕ → List Row → ℕ
@@ -80,11 +77,11 @@ module _ (children : List ℕ) (rising : every_child children (next_link_fits ch
   here = record_at children (link - 1)
 
   -- by the record at the link: it is past the key, has it, or is below it
-  pub walk_past : k < here.rank → Walk k (children_of children link) none 1
+  pub walk_past : k < here.rank → Walk k (children_of children link) None 1
   unfolding look walked
   walk_past l = rw (rows_step children rising link within fits) (record { finds = rw (compare_lt k here.rank l); reads = rw (compare_lt k here.rank l) })
 
-  pub walk_found : here.rank ≡ k → Walk k (children_of children link) (some here.count) 1
+  pub walk_found : here.rank ≡ k → Walk k (children_of children link) (Some here.count) 1
   unfolding look walked
   walk_found e = rw (rows_step children rising link within fits) (record { finds = rw (e, compare_self k); reads = rw (e, compare_self k) })
 
@@ -131,19 +128,14 @@ same_look children others first k up others-up (h, ends) =
 
 -- ---- in lent priors
 
--- where a number refuses them
-pub told_refused : (p : LentPriors) (rank wanted : ℕ) (q : Refusal) → number_of q ≡ priors_refusal p.nodes p.children (layer_of p.floor)
-    → refused (number_of q) (named_node q) ≡ child_asked p rank wanted
-told_refused p rank wanted q e = unless_refused_lem q (priors_refusal p.nodes p.children (layer_of p.floor)) _ e (priors_unnamed p.nodes p.children (layer_of p.floor))
-
 module _ (p : LentPriors) (rank wanted : ℕ) (passed : priors_refusal p.nodes p.children (layer_of p.floor) ≡ 0) where
   -- by the node record that is found, or that none is
-  pub told_in : (node : Record) → find_record (layer_of p.floor) rank (records p.nodes) ≡ some node
+  pub told_in : (node : Record) → find_record (layer_of p.floor) rank (records p.nodes) ≡ Some node
       → child_asked p rank wanted ≡ answered (record { count = count_of wanted (children_of p.children node.link); read = reads_of wanted (children_of p.children node.link) })
   unfolding prior_of
   told_in node found = rw (passed, found)
 
-  pub told_without : find_record (layer_of p.floor) rank (records p.nodes) ≡ none → child_asked p rank wanted ≡ answered (record { count = none; read = 0 })
+  pub told_without : find_record (layer_of p.floor) rank (records p.nodes) ≡ None → child_asked p rank wanted ≡ answered (record { count = None; read = 0 })
   unfolding prior_of
   told_without missing = rw (passed, missing)
 
@@ -157,8 +149,8 @@ nothing_past nodes children others floor rank wanted passed others-pass agree = 
     other = lent_priors nodes others floor
 
     go : (o : Option Record) → find_record (layer_of floor) rank (records nodes) ≡ o → child_asked one rank wanted ≡ child_asked other rank wanted
-    go none missing = told_without one rank wanted passed missing ∙ sym (told_without other rank wanted others-pass missing)
-    go (some node) found =
+    go None missing = told_without one rank wanted passed missing ∙ sym (told_without other rank wanted others-pass missing)
+    go (Some node) found =
         let fit = found_fits nodes children (layer_of floor) (accepted nodes children (layer_of floor) passed) rank node found in
         let others-fit = found_fits nodes others (layer_of floor) (accepted nodes others (layer_of floor) others-pass) rank node found in
         let both = same_look children others node.link wanted fit.ascending others-fit.ascending (agree node found) in
@@ -171,14 +163,14 @@ pub reads_at_most : ReadsAtMost
 reads_at_most p rank wanted l h = go (priors_refusal p.nodes p.children (layer_of p.floor)) refl
   where
     by_record : priors_refusal p.nodes p.children (layer_of p.floor) ≡ 0 → (o : Option Record) → find_record (layer_of p.floor) rank (records p.nodes) ≡ o → l.read ≤ max_chain
-    by_record passed none missing =
+    by_record passed None missing =
         let e = answer_is _ _ (sym (told_without p rank wanted passed missing) ∙ h) in
         omega (arith, ap (λ (x : ChildLook). x.read) e)
-    by_record passed (some node) found =
+    by_record passed (Some node) found =
         let e = answer_is _ _ (sym (told_in p rank wanted passed node found) ∙ h) in
         let fit = found_fits p.nodes p.children (layer_of p.floor) (accepted p.nodes p.children (layer_of p.floor) passed) rank node found in
         omega (arith, ap (λ (x : ChildLook). x.read) e, fit.short, chain_reads p.children node.link wanted fit.ascending, walked_le wanted (children_of p.children node.link), length-map (chain_of p.children node.link) (λ (r : Record). row r.rank r.count))
 
     go : (n : ℕ) → priors_refusal p.nodes p.children (layer_of p.floor) ≡ n → l.read ≤ max_chain
     go zero passed = by_record passed (find_record (layer_of p.floor) rank (records p.nodes)) refl
-    go (suc n) e = let z : ◌≡◌ {A = Reading ChildLook} (refused (suc n) none) (answered l) = sym (rw e) ∙ h in let y : ◌≡◌ {A = ℕ} 0 1 = cc in absurd (omega arith)
+    go (suc n) e = let z : ◌≡◌ {A = Reading ChildLook} (refused (suc n) None) (answered l) = sym (rw e) ∙ h in let y : ◌≡◌ {A = ℕ} 0 1 = cc in absurd (omega arith)

@@ -4,7 +4,7 @@
 use mathlib.Core.Path.{◌≡◌, refl, sym, ap}
 use Prim.Native.Nat.{ℕ, suc, ◌+◌, ◌-◌, ◌≤◌, ◌<◌}
 use mathlib.Core.List.{List, [], ◌∷◌}
-use mathlib.Core.Option.{Option, none, some}
+use Rattle.std.specs.Prelude.{Option, None, Some}
 use native.Mathlib.Omega.{arith}
 use mathlib.Core.Bool.{cond}
 use lib.Dec.{eqb}
@@ -14,24 +14,24 @@ use Rattle.priors.proofs.Orders.{Side, below, same, above, side, compare_lt, com
 
 -- what a look-up for the key of a change finds afterwards, by what it found before
 abbrev pub after : Option ℕ → (ℕ → ℕ) → Option ℕ → Option ℕ
-after new step none = new
-after new step (some c) = some (step c)
+after new step None = new
+after new step (Some c) = Some (step c)
 
 -- the same for each of the three changes
 abbrev pub after_touch : Option ℕ → Option ℕ
-after_touch = after (some 0) (λ c. c)
+after_touch = after (Some 0) (λ c. c)
 
 abbrev pub after_bump : Option ℕ → Option ℕ
-after_bump = after (some 1) (λ c. c + 1)
+after_bump = after (Some 1) (λ c. c + 1)
 
 abbrev pub after_fade : Option ℕ → Option ℕ
-after_fade = after none (λ c. c - 1)
+after_fade = after None (λ c. c - 1)
 
 -- how many rows come in, by what a look-up finds before and what a missing key comes in with
 abbrev pub gained : Option ℕ → Option ℕ → ℕ
-gained none none = 0
-gained none (some c) = 1
-gained (some d) o = 0
+gained None None = 0
+gained None (Some c) = 1
+gained (Some d) o = 0
 
 -- a lower bound may be lowered
 pub ascends_from : (a b : ℕ) (ks : List ℕ) → a ≤ b → Ascends b ks → Ascends a ks
@@ -41,10 +41,10 @@ ascends_from a b (k ∷ ks) l h = (omega arith, h.1)
 module _ (new : Option ℕ) (step : ℕ → ℕ) (k : ℕ) where
   -- ---- what a look-up finds: for the key itself, and for any other
 
-  look_front : (o : Option ℕ) (rs : List Row) → look k rs ≡ none → look k (front k o rs) ≡ o
+  look_front : (o : Option ℕ) (rs : List Row) → look k rs ≡ None → look k (front k o rs) ≡ o
   unfolding look
-  look_front none rs h = h
-  look_front (some c) rs h = rw (compare_self k)
+  look_front None rs h = h
+  look_front (Some c) rs h = rw (compare_self k)
 
   pub look_here : (rs : List Row) → look k (change new step k rs) ≡ after new step (look k rs)
   unfolding look change
@@ -58,10 +58,10 @@ module _ (new : Option ℕ) (step : ℕ → ℕ) (k : ℕ) where
 
   module _ (j : ℕ) (differs : j ≡ k → ⊥) where
     -- a row of k in front of rows that begin above k is not seen
-    look_past : (o : Option ℕ) (rs : List Row) → (j < k → look j rs ≡ none) → look j (front k o rs) ≡ look j rs
+    look_past : (o : Option ℕ) (rs : List Row) → (j < k → look j rs ≡ None) → look j (front k o rs) ≡ look j rs
     unfolding look
-    look_past none rs h = refl
-    look_past (some c) rs h = go (side j k)
+    look_past None rs h = refl
+    look_past (Some c) rs h = go (side j k)
       where
         go : Side j k → look j (row k c ∷ rs) ≡ look j rs
         go (below l e) = rw e (sym (h l))
@@ -94,8 +94,8 @@ module _ (new : Option ℕ) (step : ℕ → ℕ) (k : ℕ) where
   -- ---- the ascent
 
   ascends_front : (a : ℕ) (o : Option ℕ) (rs : List Row) → a ≤ k → Ascends (suc k) (keys rs) → Ascends a (keys rs) → Ascends a (keys (front k o rs))
-  ascends_front a none rs l h i = i
-  ascends_front a (some c) rs l h i = (l, h)
+  ascends_front a None rs l h i = i
+  ascends_front a (Some c) rs l h i = (l, h)
 
   pub ascends_change : (a : ℕ) (rs : List Row) → a ≤ k → Ascends a (keys rs) → Ascends a (keys (change new step k rs))
   unfolding change
@@ -109,9 +109,9 @@ module _ (new : Option ℕ) (step : ℕ → ℕ) (k : ℕ) where
 
   -- ---- the length
 
-  length_front : (o : Option ℕ) (rs : List Row) → length (front k o rs) ≡ length rs + gained none o
-  length_front none rs = omega arith
-  length_front (some c) rs = omega arith
+  length_front : (o : Option ℕ) (rs : List Row) → length (front k o rs) ≡ length rs + gained None o
+  length_front None rs = omega arith
+  length_front (Some c) rs = omega arith
 
   pub length_change : (rs : List Row) → length (change new step k rs) ≡ length rs + gained (look k rs) new
   unfolding look change
@@ -130,19 +130,19 @@ module _ (new : Option ℕ) (step : ℕ → ℕ) (k : ℕ) where
 -- ---- touching
 
 -- a key that has a row is listed already
-pub touch_found : (k c : ℕ) (rs : List Row) → look k rs ≡ some c → touch k rs ≡ rs
+pub touch_found : (k c : ℕ) (rs : List Row) → look k rs ≡ Some c → touch k rs ≡ rs
 unfolding look change
 touch_found k c [] h = let z : ◌≡◌ {A = ℕ} 0 1 = cc in absurd (omega arith)
 touch_found k c (r ∷ rs) h = go (side k r.key) h (touch_found k c rs)
   where
-    go : Side k r.key → look k (r ∷ rs) ≡ some c → (look k rs ≡ some c → touch k rs ≡ rs) → touch k (r ∷ rs) ≡ r ∷ rs
+    go : Side k r.key → look k (r ∷ rs) ≡ Some c → (look k rs ≡ Some c → touch k rs ≡ rs) → touch k (r ∷ rs) ≡ r ∷ rs
     go (below m e) f ih = let z : ◌≡◌ {A = ℕ} 0 1 = cc (rw e at f) in absurd (omega arith)
     go (same q e) f ih = rw e
     go (above m e) f ih = rw e (ap (λ (l : List Row). r ∷ l) (ih (rw e at f)))
 
 module _ (k : ℕ) (rs : List Row) where
   pub look_touch : look k (touch k rs) ≡ after_touch (look k rs)
-  look_touch = look_here (some 0) (λ c. c) k rs
+  look_touch = look_here (Some 0) (λ c. c) k rs
 
-  pub length_touch : length (touch k rs) ≡ length rs + gained (look k rs) (some 0)
-  length_touch = length_change (some 0) (λ c. c) k rs
+  pub length_touch : length (touch k rs) ≡ length rs + gained (look k rs) (Some 0)
+  length_touch = length_change (Some 0) (λ c. c) k rs

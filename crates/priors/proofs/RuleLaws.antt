@@ -5,7 +5,7 @@ use Prim.Native.Nat.{ℕ, suc}
 use native.Mathlib.Omega.{arith}
 use mathlib.Core.Bool.{Bool, true, false, cond, not, ◌&&◌, ◌||◌}
 use mathlib.Core.List.{List, [], ◌∷◌}
-use mathlib.Core.Option.{none}
+use Rattle.std.specs.Prelude.{None}
 use lib.Dec.{eqb}
 use lib.Ieee.{Float}
 use Rattle.priors.specs.declared.refusals.Refusal.{Refusal}
@@ -52,7 +52,7 @@ priors_keep test nodes children layer z h = broken_keeps test (prior_rules nodes
 
 -- ---- refusals
 
-reason_some : (r : Reason) → (m : ℕ) × (reason_number r ≡ suc m)
+pub reason_some : (r : Reason) → (m : ℕ) × (reason_number r ≡ suc m)
 reason_some TableLengths = (0, refl)
 reason_some TableEntry = (1, refl)
 reason_some PriorSizes = (2, refl)
@@ -82,7 +82,7 @@ pub by_number {ℓ} : {X : Type ℓ} (P Q : ℕ → X) → ((m : ℕ) → P (suc
 by_number P Q f r = let n = some_number r in ap P n.1 ∙ f n.0 ∙ ap Q (sym n.1)
 
 -- only 14 and 15 name a node
-pub unnamed : (r : Refusal) → names_none (number_of r) ≡ true → named_node r ≡ none
+pub unnamed : (r : Refusal) → names_none (number_of r) ≡ true → named_node r ≡ None
 unnamed (Plain reason) h = refl
 unnamed (AtNode MissingChild node) h = let z : ◌≡◌ {A = ℕ} 0 1 = cc in absurd (omega arith)
 unnamed (AtNode PastTable node) h = let z : ◌≡◌ {A = ℕ} 0 1 = cc in absurd (omega arith)
@@ -95,4 +95,4 @@ priors_unnamed nodes children layer = priors_keep names_none nodes children laye
 -- a refusal that names no node, with the number of a check, is what the check answers
 pub unless_refused_lem : {X : Type 0} (q : Refusal) (n : ℕ) (r : Reading X) → number_of q ≡ n → names_none n ≡ true → refused (number_of q) (named_node q) ≡ unless n r
 unless_refused_lem q n r e h =
-    ap (refused (number_of q)) (unnamed q (ap names_none e ∙ h)) ∙ by_number (λ m. refused m none) (λ m. unless m r) (λ m. refl) q ∙ ap (λ (m : ℕ). unless m r) e
+    ap (refused (number_of q)) (unnamed q (ap names_none e ∙ h)) ∙ by_number (λ m. refused m None) (λ m. unless m r) (λ m. refl) q ∙ ap (λ (m : ℕ). unless m r) e

@@ -1,7 +1,7 @@
 -- The look-up of a child in its node's prior: the child's count, and how many records of the chain it read. What 3 to 7 and 22 read before it is not counted.
 -- Assumes nothing.
 use Rattle.std.specs.Prelude.{ℕ, ◌+◌, ◌≤◌, ◌≡◌, cond, List, [], ◌∷◌, ltb, ℤ, length, take}
-use Rattle.std.proofs.Math.Option.{Option, none, some}
+use Rattle.std.specs.Prelude.{Option, None, Some}
 use Rattle.priors.specs.Limits.{max_chain}
 use Rattle.priors.specs.Reading.{Reading, refused, nothing, answered, unless}
 use Rattle.priors.specs.Rows.{Row, count_of}
@@ -24,8 +24,8 @@ pub record ChildLook : Type 0 where
 
 -- in a node's prior; where the node has none, there is no chain to read
 abbrev pub look_in : (wanted : ℕ) → Option Counts → ChildLook
-look_in wanted none = record { count = none; read = 0 }
-look_in wanted (some p) = record { count = count_of wanted p.children; read = reads_of wanted p.children }
+look_in wanted None = record { count = None; read = 0 }
+look_in wanted (Some p) = record { count = count_of wanted p.children; read = reads_of wanted p.children }
 
 -- the child `wanted` of the node with the address `rank`, in lent priors: 3 to 7 and 22 first
 abbrev pub child_asked : LentPriors → (rank wanted : ℕ) → Reading ChildLook
@@ -39,8 +39,8 @@ count_told nothing = nothing
 count_told (answered l) = told l.count
   where
     told : Option ℕ → Reading ℕ
-    told none = nothing
-    told (some c) = answered c
+    told None = nothing
+    told (Some c) = answered c
 
 -- ---- what follows
 
@@ -60,5 +60,5 @@ NothingPast =
     (nodes children others : List ℕ) (floor : ℤ) (rank wanted : ℕ)
     → priors_refusal nodes children (layer_of floor) ≡ 0
     → priors_refusal nodes others (layer_of floor) ≡ 0
-    → ((node : Record) → find_record (layer_of floor) rank (records nodes) ≡ some node → SameAsRead wanted (children_of children node.link) (children_of others node.link))
+    → ((node : Record) → find_record (layer_of floor) rank (records nodes) ≡ Some node → SameAsRead wanted (children_of children node.link) (children_of others node.link))
     → child_asked (lent_priors nodes children floor) rank wanted ≡ child_asked (lent_priors nodes others floor) rank wanted

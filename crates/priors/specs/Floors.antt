@@ -1,7 +1,7 @@
 -- What the floor of priors promises: what a look-up finds, in scales and points; that this is goko's layers; when 22 comes; that at most one record fits; and that
 -- the least floor is document 01 as it was. Assumes nothing.
 use Rattle.std.specs.Prelude.{ℕ, ◌^◌, ◌<◌, ◌≡◌, Bool, true, cond, not, ◌&&◌, List, [], ◌∷◌, eqb, ℤ, pos, negsuc, ◌+ℤ◌, ◌-ℤ◌}
-use Rattle.std.proofs.Math.Option.{Option, none, some, map}
+use Rattle.std.specs.Prelude.{Option, None, Some, option_map}
 use Rattle.std.specs.Int.Signed.{lt_z}
 use Rattle.std.specs.Int.{w32}
 use Rattle.std.proofs.Common.{SFits}
@@ -34,8 +34,8 @@ GokosLayers =
 abbrev pub PriorIsThatFound : Type 0
 PriorIsThatFound =
     (nodes children : List ℕ) (layer rank : ℕ) → priors_refusal nodes children layer ≡ 0
-    → ((i : ℕ) → i < record_count nodes → found_by layer rank (record_at nodes i).rank ≡ true → prior_of nodes children layer rank ≡ some (prior_of_node children (record_at nodes i)))
-    × (((i : ℕ) → i < record_count nodes → found_by layer rank (record_at nodes i).rank ≡ true → ⊥) → prior_of nodes children layer rank ≡ none)
+    → ((i : ℕ) → i < record_count nodes → found_by layer rank (record_at nodes i).rank ≡ true → prior_of nodes children layer rank ≡ Some (prior_of_node children (record_at nodes i)))
+    × (((i : ℕ) → i < record_count nodes → found_by layer rank (record_at nodes i).rank ≡ true → ⊥) → prior_of nodes children layer rank ≡ None)
 
 -- two addresses have one point in the layer where both scales are strictly below the floor and the points are one
 abbrev pub OnePoint : Type 0
@@ -64,12 +64,12 @@ least_floor = negsuc 2147483647
 
 -- document 01's look-up: a record by its exact address
 unfoldable pub exact_record : ℕ → List Record → Option Record
-exact_record rank [] = none
-exact_record rank (r ∷ rs) = cond (eqb r.rank rank) (some r) (exact_record rank rs)
+exact_record rank [] = None
+exact_record rank (r ∷ rs) = cond (eqb r.rank rank) (Some r) (exact_record rank rs)
 
 -- with the least floor a node is looked up by its exact address, and 22 refuses nothing
 abbrev pub LeastFloor : Type 0
 LeastFloor =
     (nodes children : List ℕ) (rank : ℕ)
-    → (prior_of nodes children (layer_of least_floor) rank ≡ map (prior_of_node children) (exact_record rank (records nodes)))
+    → (prior_of nodes children (layer_of least_floor) rank ≡ option_map (prior_of_node children) (exact_record rank (records nodes)))
     × (priors_refusal nodes children (layer_of least_floor) ≡ records_refusal nodes children)

@@ -1,5 +1,5 @@
 -- A layer's floor, what a search through node records shows, and the slots and links by which 22 is tested. Assumes nothing.
-use Rattle.std.specs.Prelude.{ℕ, ◌-◌, ◌*◌, ◌/◌, ◌%◌, ◌≤◌, ◌<◌, ◌≡◌, true, List, ℤ, get_or}
+use Rattle.std.specs.Prelude.{ℕ, ◌-◌, ◌*◌, ◌/◌, ◌%◌, ◌≤◌, ◌<◌, ◌≡◌, true, List, ℤ, get_or, Option, None, Some}
 use Rattle.std.specs.Int.{w32}
 use Rattle.std.proofs.Common.{to_z}
 use Rattle.priors.specs.Address.{lift}
@@ -25,9 +25,10 @@ Absent s k = (j : ℕ) → j < record_count s → (record_at s j).rank ≡ k →
 abbrev pub Nowhere : List ℕ → ℕ → ℕ → Type 0
 Nowhere s layer k = (j : ℕ) → j < record_count s → found_by layer k (record_at s j).rank ≡ true → ⊥
 
--- r is the place of a record that a look-up of k finds, or the end where it finds none
-abbrev pub FoundAt : List ℕ → ℕ → ℕ → ℕ → Type 0
-FoundAt s layer k r = (r ≤ record_count s) × (r < record_count s → found_by layer k (record_at s r).rank ≡ true) × (r ≡ record_count s → Nowhere s layer k)
+-- the place of a record that a look-up of k finds; none where it finds none
+abbrev pub FoundAt : List ℕ → ℕ → ℕ → Option ℕ → Type 0
+FoundAt s layer k None = Nowhere s layer k
+FoundAt s layer k (Some r) = (r < record_count s) × (found_by layer k (record_at s r).rank ≡ true)
 
 -- the slot of a rank, by its point alone: twelve bits of a product, which spreads points with most common steps
 abbrev pub slot : ℕ → ℕ

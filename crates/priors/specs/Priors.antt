@@ -1,7 +1,6 @@
 -- Priors: node records and child records in lent bytes, the chain of a node, its prior, and numbers 3 to 7 and 22. Assumes nothing.
 use Rattle.std.specs.Prelude.{ℕ, zero, suc, ◌+◌, ◌*◌, ◌/◌, ◌%◌, ◌^◌, Bool, true, cond, not, ◌&&◌, ◌||◌, List, [], ◌∷◌, ◌++◌, map, eqb, leb, ltb, ℤ, length}
-use Rattle.std.proofs.Math.Option
-use Rattle.std.proofs.Math.Option.{Option, none, some}
+use Rattle.std.specs.Prelude.{Option, None, Some, option_map}
 use Rattle.std.specs.Int.{w32}
 use Rattle.std.proofs.Common.{of_z}
 use Rattle.priors.specs.Word.{word}
@@ -89,12 +88,12 @@ found_by layer wanted own = cond (in_layer layer wanted) (one_point layer wanted
 
 -- the first such record; where 4 and 22 pass there is at most one (`OneFound` of specs/Floors.antt)
 unfoldable pub find_record : (layer wanted : ℕ) → List Record → Option Record
-find_record layer wanted [] = none
-find_record layer wanted (r ∷ rs) = cond (found_by layer wanted r.rank) (some r) (find_record layer wanted rs)
+find_record layer wanted [] = None
+find_record layer wanted (r ∷ rs) = cond (found_by layer wanted r.rank) (Some r) (find_record layer wanted rs)
 
 -- the prior of an address: that of the record that its look-up finds, if there is one
 unfoldable pub prior_of : (nodes children : List ℕ) (layer rank : ℕ) → Option Counts
-prior_of nodes children layer rank = Option.map (prior_of_node children) (find_record layer rank (records nodes))
+prior_of nodes children layer rank = option_map (prior_of_node children) (find_record layer rank (records nodes))
 
 unfoldable pub count_sum : List Row → ℕ
 count_sum [] = 0

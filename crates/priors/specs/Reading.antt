@@ -1,6 +1,6 @@
 -- What a call that asks answers. Assumes nothing.
 use Rattle.std.specs.Prelude.{ℕ, zero, suc}
-use Rattle.std.proofs.Math.Option.{Option, none}
+use Rattle.std.specs.Prelude.{Option, None}
 use Rattle.priors.specs.declared.addresses.Address.{Address}
 
 -- a refusal with its number and the node that 14 and 15 name, none, or the answer itself
@@ -24,4 +24,4 @@ mapped part (answered x) = answered (part x)
 -- an answer after a check: where the check's number is not 0, it refuses
 abbrev pub unless : {X : Type 0} → ℕ → Reading X → Reading X
 unless zero r = r
-unless (suc n) r = refused (suc n) none
+unless (suc n) r = refused (suc n) None

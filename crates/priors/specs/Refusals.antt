@@ -1,6 +1,5 @@
 -- The numbers of the table 'Where each call is turned back'. Assumes nothing.
-use Rattle.std.specs.Prelude.{ℕ}
-use Rattle.std.proofs.Math.Option.{Option, none, some}
+use Rattle.std.specs.Prelude.{ℕ, Option, None, Some, Result, Ok, Err}
 use Rattle.priors.specs.declared.addresses.Address.{Address}
 use Rattle.priors.specs.declared.refusals.Refusal.{Refusal}
 use Rattle.priors.specs.declared.refusals.Refusal.TheVariants.{Plain, AtNode}
@@ -8,8 +7,6 @@ use Rattle.priors.specs.declared.refusals.Reason.{Reason}
 use Rattle.priors.specs.declared.refusals.Reason.TheVariants.{TableLengths, TableEntry, PriorSizes, NodeOrder, Links, ChainOrder, ZeroPrior, Window, Form, PathLength, PathsFull, BookFull, OutputShort, TrainingInput, BaselineInput, OneKnot, SharedPoint}
 use Rattle.priors.specs.declared.refusals.NodeReason.{NodeReason}
 use Rattle.priors.specs.declared.refusals.NodeReason.TheVariants.{MissingChild, PastTable}
-use Rattle.priors.specs.declared.refusals.Checked.{Checked}
-use Rattle.priors.specs.declared.refusals.Checked.TheVariants.{Passed, Refused}
 
 abbrev pub reason_number : Reason → ℕ
 reason_number TableLengths = 1
@@ -40,10 +37,10 @@ number_of (AtNode reason node) = node_reason_number reason
 
 -- the node that 14 and 15 name
 abbrev pub named_node : Refusal → Option Address
-named_node (Plain reason) = none
-named_node (AtNode reason node) = some node
+named_node (Plain reason) = None
+named_node (AtNode reason node) = Some node
 
 -- a check's number: 0 where nothing is refused
-abbrev pub checked_number : Checked → ℕ
-checked_number Passed = 0
-checked_number (Refused r) = number_of r
+abbrev pub checked_number : {X : Type 0} → Result X Reason → ℕ
+checked_number (Ok x) = 0
+checked_number (Err reason) = reason_number reason

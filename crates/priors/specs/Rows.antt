@@ -2,7 +2,7 @@
 -- more and counting one less are three cases of it. Assumes nothing.
 use Prim.Native.Nat.{ℕ, suc, ◌+◌, ◌-◌, ◌≤◌, compare, Ordering}
 use Rattle.std.specs.Prelude.{cond, List, [], ◌∷◌, map, eqb}
-use Rattle.std.proofs.Math.Option.{Option, none, some}
+use Rattle.std.specs.Prelude.{Option, None, Some}
 
 pub record Row : Type 0 where
   pub key : ℕ
@@ -27,19 +27,19 @@ choose Ordering.gt x y z = z
 
 -- the count of the row with the key k, if there is one: a look-up by exact key, in whatever order the rows stand
 unfoldable pub count_of : ℕ → List Row → Option ℕ
-count_of k [] = none
-count_of k (r ∷ rs) = cond (eqb r.key k) (some r.count) (count_of k rs)
+count_of k [] = None
+count_of k (r ∷ rs) = cond (eqb r.key k) (Some r.count) (count_of k rs)
 
 -- the same as a search of ascending rows finds it, which ends at the first row that is not below k. Where rows ascend it is `count_of` (`look_exact` of
 -- proofs/Exactly.antt)
 unfoldable pub look : ℕ → List Row → Option ℕ
-look k [] = none
-look k (r ∷ rs) = choose (compare k r.key) none (some r.count) (look k rs)
+look k [] = None
+look k (r ∷ rs) = choose (compare k r.key) None (Some r.count) (look k rs)
 
 -- a row for k in front, if it is to have a count
 abbrev pub front : ℕ → Option ℕ → List Row → List Row
-front k none rs = rs
-front k (some c) rs = row k c ∷ rs
+front k None rs = rs
+front k (Some c) rs = row k c ∷ rs
 
 -- the count c of the row of k becomes `step c`; a missing k comes in at its place with `new`, or is passed over
 unfoldable pub change : Option ℕ → (ℕ → ℕ) → ℕ → List Row → List Row
@@ -49,12 +49,12 @@ change new step k (r ∷ rs) =
 
 -- k is listed: a missing key comes in with 0
 abbrev pub touch : ℕ → List Row → List Row
-touch = change (some 0) (λ c. c)
+touch = change (Some 0) (λ c. c)
 
 -- k counts one more: a missing key comes in with 1
 abbrev pub bump : ℕ → List Row → List Row
-bump = change (some 1) (λ c. c + 1)
+bump = change (Some 1) (λ c. c + 1)
 
 -- k counts one less, if it counts any: a missing key is passed over
 abbrev pub fade : ℕ → List Row → List Row
-fade = change none (λ c. c - 1)
+fade = change None (λ c. c - 1)

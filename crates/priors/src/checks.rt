@@ -6,9 +6,9 @@ ghost use Rattle.priors.specs.Limits.{max_chain, record_size};
 ghost use Rattle.priors.specs.Refusals.{checked_number};
 ghost use Rattle.priors.specs.Priors.{records, record_count, ascends, chain_of, whole_records, every_node, every_child, first_link_fits, next_link_fits, chain_fits, chain_ascends, record_count_fits, total_fits, prior_of_node, total, records_refusal, priors_refusal};
 
-use crate::layers::points_differ;
-use crate::records::{RECORD_SIZE, Record, record_at};
-use crate::refusals::{Checked, Reason, Refusal};
+use crate::places::Nodes;
+use crate::records::{RECORD_SIZE, Record, every_record, record_at, record_count};
+use crate::refusals::Reason;
 
 pub const MAX_NODES: usize = 4096;
 
@@ -17,248 +17,193 @@ pub const MAX_CHILDREN: usize = 16384;
 pub const MAX_CHAIN: usize = 64;
 
 // Whole records, and at most this many.
+#[tactic(auto, unfolding(crate::specs::Priors::whole_records))]
 fn whole_records(s: &[u8], most: usize) -> bool
     ensures { result ≡ whole_records s.now most }
 {
-    if s.len() % RECORD_SIZE != 0 {
-        return false;
-    }
-    s.len() / RECORD_SIZE <= most
+    s.len() % RECORD_SIZE == 0 && record_count(s) <= most
 }
 
 // Nodes strictly ascend.
 fn nodes_ascend(nodes: &[u8]) -> bool
     ensures { result ≡ ascends (records nodes.now) }
 {
-    let n = nodes.len() / RECORD_SIZE;
+    let n = record_count(nodes);
     if n == 0 {
         return true;
     }
     let mut last = record_at(nodes, 0).rank;
-    let mut i = 1;
-    while i < n {
+    for i in 1..n {
         let next = record_at(nodes, i).rank;
         if next <= last {
             return false;
         }
         last = next;
-        i += 1;
     }
     true
+}
+
+// A chain of child records: the records that the link `first` and the links of these lead to.
+#[derive(Clone, Copy)]
+struct Chain<'a> {
+    children: &'a [u8],
+    first: u32,
+    ghost first_fits: { first ≤ record_count children.now },
+    ghost links_rise: { every_child children.now (next_link_fits children.now) ≡ true },
+}
+
+impl Chain<'_> {
+    // It has at most 64 records; the walk goes no further.
+    fn is_short(&self) -> bool
+        ensures { result ≡ leb (length (chain_of self.now.children.now self.now.first)) max_chain }
+    {
+        let mut link = self.first as usize;
+        let mut n = 0;
+        while link != 0 {
+            if n == MAX_CHAIN {
+                return false;
+            }
+            link = record_at(self.children, link - 1).link as usize;
+            n += 1;
+        }
+        true
+    }
+
+    // It strictly ascends.
+    fn ascends(&self) -> bool
+        ensures { result ≡ ascends (chain_of self.now.children.now self.now.first) }
+    {
+        if self.first == 0 {
+            return true;
+        }
+        let start = record_at(self.children, self.first as usize - 1);
+        let mut last = start.rank;
+        let mut link = start.link as usize;
+        while link != 0 {
+            let next = record_at(self.children, link - 1);
+            if next.rank <= last {
+                return false;
+            }
+            last = next.rank;
+            link = next.link as usize;
+        }
+        true
+    }
+}
+
+// Records whose links fit: every first link is 0 or a record's number, every next link ends its chain, or rises and is a record's
+// number.
+#[derive(Clone, Copy)]
+struct Linked<'a> {
+    nodes: &'a [u8],
+    children: &'a [u8],
+    ghost firsts_fit: { every_node nodes.now (first_link_fits nodes.now children.now) ≡ true },
+    ghost links_rise: { every_child children.now (next_link_fits children.now) ≡ true },
+}
+
+impl<'a> Linked<'a> {
+    fn chain(&self, node: Record) -> Chain<'a>
+        requires { node.link ≤ record_count self.now.children.now }
+        ensures children { result.children.now ≡ self.now.children.now }
+        ensures first { result.first ≡ node.link }
+    {
+        Chain {
+            children: self.children,
+            first: node.link,
+        }
+    }
+
+    fn chains_short(&self) -> bool
+        ensures { result ≡ every_node self.now.nodes.now (chain_fits self.now.nodes.now self.now.children.now) }
+    {
+        every_record(self.nodes, |_, node| self.chain(node).is_short())
+    }
+
+    fn chains_ascend(&self) -> bool
+        ensures { result ≡ every_node self.now.nodes.now (chain_ascends self.now.nodes.now self.now.children.now) }
+    {
+        every_record(self.nodes, |_, node| self.chain(node).ascends())
+    }
+
+    // The node's total is not 0: since no child count is 0, that takes a singleton or a chain.
+    #[tactic(auto, unfolding(crate::specs::Priors::total))]
+    fn total_fits(&self, node: Record) -> bool
+        requires link_bound { node.link ≤ record_count self.now.children.now }
+        requires counts_fit { every_child self.now.children.now (record_count_fits self.now.children.now) ≡ true }
+        ensures { result ≡ ltb 0 (total (prior_of_node self.now.children.now node)) }
+    {
+        node.count != 0 || node.link != 0
+    }
+
+    fn totals_fit(&self) -> bool
+        requires { every_child self.now.children.now (record_count_fits self.now.children.now) ≡ true }
+        ensures { result ≡ every_node self.now.nodes.now (total_fits self.now.nodes.now self.now.children.now) }
+    {
+        every_record(self.nodes, |_, node| self.total_fits(node))
+    }
 }
 
 // Every first link is 0 or a record's number.
 fn first_links_fit(nodes: &[u8], children: &[u8]) -> bool
     ensures { result ≡ every_node nodes.now (first_link_fits nodes.now children.now) }
 {
-    let n = nodes.len() / RECORD_SIZE;
-    let m = children.len() / RECORD_SIZE;
-    let mut i = 0;
-    while i < n {
-        let link = record_at(nodes, i).link as usize;
-        if m < link {
-            return false;
-        }
-        i += 1;
-    }
-    true
+    let most = record_count(children);
+    every_record(nodes, |_, node| node.link as usize <= most)
 }
 
-// The next link of the record numbered i from 0 ends the chain, or rises and is a record's number.
-fn next_link_fits(children: &[u8], i: usize) -> bool
-    requires { record_size * i + 16 ≤ length children.now }
-    ensures { result ≡ next_link_fits children.now i }
-{
-    let link = record_at(children, i).link as usize;
-    if link == 0 {
-        return true;
-    }
-    if link <= i + 1 {
-        return false;
-    }
-    link <= children.len() / RECORD_SIZE
-}
-
+// Every next link ends its chain, or rises and is a record's number. The record at i has the number i + 1.
 fn next_links_fit(children: &[u8]) -> bool
     ensures { result ≡ every_child children.now (next_link_fits children.now) }
 {
-    let m = children.len() / RECORD_SIZE;
-    let mut i = 0;
-    while i < m {
-        if !next_link_fits(children, i) {
-            return false;
-        }
-        i += 1;
-    }
-    true
-}
-
-// The chain has at most 64 records; the walk goes no further.
-fn chain_fits(children: &[u8], first: u32) -> bool
-    requires first_bound { first ≤ record_count children.now }
-    requires children_value { every_child children.now (next_link_fits children.now) ≡ true }
-    ensures { result ≡ leb (length (chain_of children.now first)) max_chain }
-{
-    let mut link = first as usize;
-    let mut n = 0;
-    while link != 0 {
-        if n == MAX_CHAIN {
-            return false;
-        }
-        link = record_at(children, link - 1).link as usize;
-        n += 1;
-    }
-    true
-}
-
-fn chains_fit(nodes: &[u8], children: &[u8]) -> bool
-    requires children_value { every_node nodes.now (first_link_fits nodes.now children.now) ≡ true }
-    requires children_value_2 { every_child children.now (next_link_fits children.now) ≡ true }
-    ensures { result ≡ every_node nodes.now (chain_fits nodes.now children.now) }
-{
-    let n = nodes.len() / RECORD_SIZE;
-    let mut i = 0;
-    while i < n {
-        if !chain_fits(children, record_at(nodes, i).link) {
-            return false;
-        }
-        i += 1;
-    }
-    true
-}
-
-// The chain strictly ascends.
-fn chain_ascends(children: &[u8], first: u32) -> bool
-    requires first_bound { first ≤ record_count children.now }
-    requires children_value { every_child children.now (next_link_fits children.now) ≡ true }
-    ensures { result ≡ ascends (chain_of children.now first) }
-{
-    if first == 0 {
-        return true;
-    }
-    let start = record_at(children, first as usize - 1);
-    let mut last = start.rank;
-    let mut link = start.link as usize;
-    while link != 0 {
-        let next = record_at(children, link - 1);
-        if next.rank <= last {
-            return false;
-        }
-        last = next.rank;
-        link = next.link as usize;
-    }
-    true
-}
-
-fn chains_ascend(nodes: &[u8], children: &[u8]) -> bool
-    requires children_value { every_node nodes.now (first_link_fits nodes.now children.now) ≡ true }
-    requires children_value_2 { every_child children.now (next_link_fits children.now) ≡ true }
-    ensures { result ≡ every_node nodes.now (chain_ascends nodes.now children.now) }
-{
-    let n = nodes.len() / RECORD_SIZE;
-    let mut i = 0;
-    while i < n {
-        if !chain_ascends(children, record_at(nodes, i).link) {
-            return false;
-        }
-        i += 1;
-    }
-    true
+    let most = record_count(children);
+    every_record(children, |i, child| {
+        let link = child.link as usize;
+        link == 0 || i + 1 < link && link <= most
+    })
 }
 
 // No child count is 0.
 fn counts_fit(children: &[u8]) -> bool
     ensures { result ≡ every_child children.now (record_count_fits children.now) }
 {
-    let m = children.len() / RECORD_SIZE;
-    let mut i = 0;
-    while i < m {
-        if record_at(children, i).count == 0 {
-            return false;
-        }
-        i += 1;
-    }
-    true
-}
-
-// The node's total is not 0: since no child count is 0, that takes a singleton or a chain.
-fn total_fits(children: &[u8], node: Record) -> bool
-    requires link_bound { node.link ≤ record_count children.now }
-    requires children_value { every_child children.now (next_link_fits children.now) ≡ true }
-    requires children_value_2 { every_child children.now (record_count_fits children.now) ≡ true }
-    ensures { result ≡ ltb 0 (total (prior_of_node children.now node)) }
-{
-    if node.count != 0 {
-        return true;
-    }
-    if node.link != 0 {
-        return true;
-    }
-    false
-}
-
-fn totals_fit(nodes: &[u8], children: &[u8]) -> bool
-    requires children_value { every_node nodes.now (first_link_fits nodes.now children.now) ≡ true }
-    requires children_value_2 { every_child children.now (next_link_fits children.now) ≡ true }
-    requires children_value_3 { every_child children.now (record_count_fits children.now) ≡ true }
-    ensures { result ≡ every_node nodes.now (total_fits nodes.now children.now) }
-{
-    let n = nodes.len() / RECORD_SIZE;
-    let mut i = 0;
-    while i < n {
-        if !total_fits(children, record_at(nodes, i)) {
-            return false;
-        }
-        i += 1;
-    }
-    true
+    every_record(children, |_, child| child.count != 0)
 }
 
 // Numbers 3 to 7.
-fn check_records(nodes: &[u8], children: &[u8]) -> Checked
+#[tactic(auto, unfolding(crate::specs::Priors::records_refusal))]
+fn check_records(nodes: &[u8], children: &[u8]) -> Result<(), Reason>
     ensures { checked_number result ≡ records_refusal nodes.now children.now }
 {
-    if !whole_records(nodes, MAX_NODES) {
-        return Checked::Refused(Refusal::Plain(Reason::PriorSizes));
-    }
-    if !whole_records(children, MAX_CHILDREN) {
-        return Checked::Refused(Refusal::Plain(Reason::PriorSizes));
+    if !whole_records(nodes, MAX_NODES) || !whole_records(children, MAX_CHILDREN) {
+        return Err(Reason::PriorSizes);
     }
     if !nodes_ascend(nodes) {
-        return Checked::Refused(Refusal::Plain(Reason::NodeOrder));
+        return Err(Reason::NodeOrder);
     }
-    if !first_links_fit(nodes, children) {
-        return Checked::Refused(Refusal::Plain(Reason::Links));
+    if !first_links_fit(nodes, children) || !next_links_fit(children) {
+        return Err(Reason::Links);
     }
-    if !next_links_fit(children) {
-        return Checked::Refused(Refusal::Plain(Reason::Links));
+    let linked = Linked { nodes, children };
+    if !linked.chains_short() {
+        return Err(Reason::Links);
     }
-    if !chains_fit(nodes, children) {
-        return Checked::Refused(Refusal::Plain(Reason::Links));
+    if !linked.chains_ascend() {
+        return Err(Reason::ChainOrder);
     }
-    if !chains_ascend(nodes, children) {
-        return Checked::Refused(Refusal::Plain(Reason::ChainOrder));
+    if !counts_fit(children) || !linked.totals_fit() {
+        return Err(Reason::ZeroPrior);
     }
-    if !counts_fit(children) {
-        return Checked::Refused(Refusal::Plain(Reason::ZeroPrior));
-    }
-    if !totals_fit(nodes, children) {
-        return Checked::Refused(Refusal::Plain(Reason::ZeroPrior));
-    }
-    Checked::Passed
+    Ok(())
 }
 
 // Numbers 3 to 7, and then 22.
-pub fn check_priors(nodes: &[u8], children: &[u8], layer: u32) -> Checked
+pub(crate) fn check_priors(nodes: &[u8], children: &[u8], layer: u32) -> Result<(), Reason>
     ensures { checked_number result ≡ priors_refusal nodes.now children.now layer }
 {
-    match check_records(nodes, children) {
-        Checked::Refused(r) => Checked::Refused(r),
-        Checked::Passed => {
-            if points_differ(nodes, layer) {
-                return Checked::Passed;
-            }
-            Checked::Refused(Refusal::Plain(Reason::SharedPoint))
-        }
+    check_records(nodes, children)?;
+    let ascending = Nodes { bytes: nodes };
+    if !ascending.points_differ(layer) {
+        return Err(Reason::SharedPoint);
     }
+    Ok(())
 }

@@ -9,5 +9,6 @@ pub mod records; // node records and child records
 pub mod places; // where node records of an address begin
 pub mod layers; // number 22: points below the floor
 pub mod checks; // the rules for prior records
-pub mod lookups; // a node by its address or its point, a child along a chain
+pub mod prior; // a node's prior, and a child along its chain
+pub mod lookups; // lent priors, and a node by its address or its point
 pub mod children; // a child in its node's prior, for a user

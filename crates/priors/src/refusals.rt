@@ -2,88 +2,75 @@
 // node and names it.
 ghost use Rattle.std.specs.Prelude.{◌≡◌};
 ghost use Rattle.priors.specs.Refusals.{reason_number, node_reason_number, number_of};
+ghost use Rattle.priors.specs.declared.refusals.Refusal.TheVariants.{Plain};
 
 use crate::addresses::Address;
 
-#[derive(Clone, Copy)]
+#[derive(Clone, Copy, Debug, PartialEq, Eq)]
 pub enum Refusal {
     Plain(Reason),
     AtNode(NodeReason, Address),
 }
 
-#[derive(Clone, Copy)]
+#[derive(Clone, Copy, Debug, PartialEq, Eq)]
 pub enum Reason {
-    TableLengths,
-    TableEntry,
-    PriorSizes,
-    NodeOrder,
-    Links,
-    ChainOrder,
-    ZeroPrior,
-    Window,
-    Form,
-    PathLength,
-    PathsFull,
-    BookFull,
-    OutputShort,
-    TrainingInput,
-    BaselineInput,
-    OneKnot,
-    SharedPoint,
+    TableLengths = 1,
+    TableEntry = 2,
+    PriorSizes = 3,
+    NodeOrder = 4,
+    Links = 5,
+    ChainOrder = 6,
+    ZeroPrior = 7,
+    Window = 8,
+    Form = 9,
+    PathLength = 10,
+    PathsFull = 11,
+    BookFull = 12,
+    OutputShort = 13,
+    TrainingInput = 16,
+    BaselineInput = 17,
+    OneKnot = 18,
+    SharedPoint = 22,
 }
 
-#[derive(Clone, Copy)]
+#[derive(Clone, Copy, Debug, PartialEq, Eq)]
 pub enum NodeReason {
-    MissingChild,
-    PastTable,
+    MissingChild = 14,
+    PastTable = 15,
 }
 
-// What a check of lent input finds.
-#[derive(Clone, Copy)]
-pub enum Checked {
-    Passed,
-    Refused(Refusal),
+impl From<Reason> for Refusal {
+    ghost from_gives = { λ reason r. r ≡ Plain reason };
+
+    fn from(reason: Reason) -> Self {
+        Refusal::Plain(reason)
+    }
+}
+
+impl From<Reason> for u32 {
+    ghost from_gives = { λ reason n. n ≡ reason_number reason };
+
+    fn from(reason: Reason) -> Self {
+        reason as u32
+    }
+}
+
+impl From<NodeReason> for u32 {
+    ghost from_gives = { λ reason n. n ≡ node_reason_number reason };
+
+    fn from(reason: NodeReason) -> Self {
+        reason as u32
+    }
 }
 
 // The refusal's number.
-pub fn number(r: Refusal) -> u32
-    ensures { result ≡ number_of r }
-{
-    match r {
-        Refusal::Plain(reason) => reason_number(reason),
-        Refusal::AtNode(reason, _) => node_reason_number(reason),
-    }
-}
+impl From<Refusal> for u32 {
+    ghost from_gives = { λ r n. n ≡ number_of r };
 
-fn reason_number(reason: Reason) -> u32
-    ensures { result ≡ reason_number reason }
-{
-    match reason {
-        Reason::TableLengths => 1,
-        Reason::TableEntry => 2,
-        Reason::PriorSizes => 3,
-        Reason::NodeOrder => 4,
-        Reason::Links => 5,
-        Reason::ChainOrder => 6,
-        Reason::ZeroPrior => 7,
-        Reason::Window => 8,
-        Reason::Form => 9,
-        Reason::PathLength => 10,
-        Reason::PathsFull => 11,
-        Reason::BookFull => 12,
-        Reason::OutputShort => 13,
-        Reason::TrainingInput => 16,
-        Reason::BaselineInput => 17,
-        Reason::OneKnot => 18,
-        Reason::SharedPoint => 22,
-    }
-}
-
-fn node_reason_number(reason: NodeReason) -> u32
-    ensures { result ≡ node_reason_number reason }
-{
-    match reason {
-        NodeReason::MissingChild => 14,
-        NodeReason::PastTable => 15,
+    fn from(r: Refusal) -> Self {
+        match r {
+            Refusal::Plain(reason) => u32::from(reason),
+            Refusal::AtNode(reason, _) => u32::from(reason),
+        }
     }
 }

@@ -1,6 +1,5 @@
 -- The loop's invariant: the answer of the whole is that of what is left, after the last key.
 -- Assumes nothing.
-use Prim.Native.Nat.{◌-◌, ◌≤◌}
 use mathlib.Core.Path.{◌≡◌}
 use lib.ListN.{drop}
 use Rattle.entries.specs.Keys.{key_value}
@@ -9,7 +8,4 @@ use Rattle.book.specs.Form.{formed, formed_after}
 use Rattle.book.proofs.form.entries_formed.Given as goal
 
 abbrev pub invariant-loop-i : goal.invariant-loop-i
-invariant-loop-i l = (1 ≤ l.i) × (l.i ≤ l.used) × (formed (rows l.book l.used) ≡ formed_after (key_value l.last) (drop l.i (rows l.book l.used)))
-
-abbrev pub decreases-loop-i : goal.decreases-loop-i
-decreases-loop-i l = l.used - l.i
+invariant-loop-i l = formed (rows l.book l.used) ≡ formed_after (key_value l.last) (drop l.i (rows l.book l.used))

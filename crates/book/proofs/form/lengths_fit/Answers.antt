@@ -1,25 +1,15 @@
--- The loop goes down; its invariant: the answer of the whole is that of the places below `i`.
+-- The places are looked at one after another.
 -- Assumes nothing.
-use mathlib.Core.Path.{refl}
-use Rattle.book.proofs.FormLaws.{length_short, length_long, length_on, lengths_done}
+use mathlib.Core.Path.{◌∙◌}
+use borrow.Author.Rules.{rules}
+use borrow.Author.Tests.{tests}
 use native.Mathlib.Omega.{arith}
+use Rattle.std.proofs.lemmas.Iterator.{YieldsList-from_range}
+use Rattle.std.proofs.lemmas.Iterator.Search.{all_from_yields_List}
+use Rattle.book.proofs.FormLaws.{fits, lengths_all}
 use Rattle.book.proofs.form.lengths_fit.Goals as goal
-
-pub loop-i-init : goal.loop-i-init
-loop-i-init c = (omega arith, refl)
-
-pub returns-then-steps-lt1 : goal.returns-then-steps-lt1
-returns-then-steps-lt1 c =
-    length_short c.args.queue.now c.args.n c.loop-i.i c.loop-i.invariant.1 (omega arith) (omega arith)
-
-pub returns-then-steps-gt-MAX_STEPS : goal.returns-then-steps-gt-MAX_STEPS
-returns-then-steps-gt-MAX_STEPS c =
-    length_long c.args.queue.now c.args.n c.loop-i.i c.loop-i.invariant.1 (omega arith) (omega arith) (omega arith)
-
-pub loop-i-preserved : goal.loop-i-preserved
-loop-i-preserved c =
-    (omega arith, length_on c.args.queue.now c.args.n c.loop-i.i c.loop-i.invariant.1 (omega arith) (omega arith) (omega arith))
 
 pub returns : goal.returns
 returns c =
-    lengths_done c.args.queue.now c.args.n c.loop-i.i c.loop-i.invariant.1 (omega arith)
+    all_from_yields_List (fits c.args.queue.now) _ _ c.all.result c.all.ensures.ran (YieldsList-from_range 0 c.args.n c.args.n (search rules) (omega arith)) (λ x b q k. search (rules, tests))
+    ∙ lengths_all c.args.queue.now c.args.n

@@ -6,19 +6,12 @@ use native.Mathlib.Omega.{arith}
 use Rattle.book.specs.Path.{path_of, listed_keys}
 use Rattle.entries.specs.Entries.{rows}
 use Rattle.book.specs.Room.{brings}
-use Rattle.book.proofs.RoomLaws.{brings_at_most, pair_none}
+use Rattle.book.proofs.RoomLaws.{pair_none}
 use Rattle.book.proofs.room.pair_brought.Goals as goal
 
 pub returns-then-entries_brought-eq0 : goal.returns-then-entries_brought-eq0
 returns-then-entries_brought-eq0 c =
-    let rs = rows c.args.book.now c.args.used in
-    let none : brings rs (listed_keys (path_of c.args.path.now)) (2 * c.args.i + 1) ≡ 0 = sym c.entries_brought.ensures ∙ c.if-entries_brought-eq0.true in
-    omega (arith, none, pair_none c.args.path.now c.shared_slice_known-2-1.given rs c.requires.endings_listed c.args.i c.requires.i_in_bounds none)
-
-pub overflow_add-result : goal.overflow_add-result
-overflow_add-result c =
-    omega (arith, c.entries_brought-2.ensures, brings_at_most (rows c.args.book.now c.args.used) (listed_keys (path_of c.args.path.now)) (2 * c.args.i))
-
-pub returns : goal.returns
-returns c =
-    omega (arith, c.entries_brought-2.ensures, c.entries_brought.ensures, c.if-entries_brought-eq0.false, brings_at_most (rows c.args.book.now c.args.used) (listed_keys (path_of c.args.path.now)) (2 * c.args.i + 1))
+    let rs = rows c.args.entries.now.bytes.now c.args.entries.now.used in
+    let path = c.args.path.now.steps.now in
+    let none : brings rs (listed_keys (path_of path)) (2 * c.args.i + 1) ≡ 0 = sym c.entries_brought.ensures ∙ c.if-entries_brought-eq0.true in
+    omega (arith, none, pair_none (path_of path) c.args.path.now.ranks rs c.requires.endings_listed c.args.i c.requires.i_in_bounds none)

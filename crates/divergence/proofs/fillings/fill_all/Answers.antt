@@ -1,108 +1,108 @@
--- `fill_all` meets its contract: the output so far with what the nodes still to come put from the next place on is the output with all nodes.
-use Rattle.std.proofs.Common.{◌≡◌, ℕ, List, ap, ◌∙◌, subst, ap₂, arith}
-use Rattle.divergence.specs.declared.divergences.NodeDivergence.{NodeDivergence}
-use Rattle.divergence.specs.declared.fillings.Filling.{Filling}
+-- `fill_all` meets its contract: the outputs with what the nodes still to come put from the next place on are the outputs with all nodes.
+use Rattle.std.proofs.Common.{length, sym, refl, ap, ◌∙◌, arith}
+use Rattle.std.specs.Prelude.{Ok}
 use Rattle.divergence.specs.Nodes.{Node}
-use Rattle.divergence.specs.Parts.{node_at}
-use Rattle.divergence.specs.Statistics.{Walk, walk}
-use Rattle.divergence.specs.Fillings.{filling_of, put_address, put_figure}
-use Rattle.divergence.proofs.WalkLaws.{first, next, divergence_at, walk_from, walk_next, walk_end}
-use Rattle.divergence.proofs.FillLaws.{FilledTo, filled_start, filled_next, room_addresses, room_figures, end_skipped, end_addresses, end_figures, filling_skipped, passed_le}
+use Rattle.divergence.specs.Listing.{listed_node, nodes_left}
+use Rattle.divergence.specs.Statistics.{walk, walk_over}
+use Rattle.divergence.proofs.WalkLaws.{nodes_number, walk_next, walk_end}
+use Rattle.divergence.proofs.FillLaws.{filled_start, filled_room, filled_put, filled_skipped, filled_refused, end_places, end_skipped, end_addresses, end_figures}
 use Rattle.divergence.proofs.fillings.fill_all.Goals as goal
 
-pub loop-i-init : goal.loop-i-init
-loop-i-init c =
-    let g = c.args.g.now in
-    let d = c.args.d.now in
-    let nodes = c.args.nodes.now in
-    let children = c.args.children.now in
-    let layer = c.args.layer in
-    let book = c.args.book.now in
-    let used = c.args.used in
-    let at = first book c.children_end-i.result used c.children_end-i.ensures in
-    let whole = walk_from g d nodes children layer book 0 used in (
-      at.within,
-      at.ends,
-      subst (λ (ns : List Node). FilledTo whole (walk g d nodes children layer ns) c.args.addresses.now c.args.addresses.now c.args.figures.now c.args.figures.now (record { places = 0; skipped = 0 })) at.nodes_are (filled_start whole c.args.addresses.now c.args.figures.now c.requires.used_value),
-      omega arith,
-    )
+pub loop-node-init : goal.loop-node-init
+loop-node-init c =
+    let t = c.args.tables.now in
+    let p = c.args.priors.now in
+    let l = c.args.listing.now in
+    let o = c.args.output.now in
+    let whole = walk_over t p l in
+    record {
+      filled = rw c.of-nodes.ensures (filled_start whole o.addresses.now o.figures.now c.requires.unstopped);
+      few = omega (arith, ap (λ ns. length {A = Node} ns) c.of-nodes.ensures, nodes_number l.bytes.now 0 l.used, l.few);
+      same_addresses = refl;
+      same_figures = refl;
+    }
 
-pub children_end-to-requires : goal.children_end-to-requires
-children_end-to-requires c = record { i_le_used = omega arith; used_in_bounds = omega arith }
+pub put-requires : goal.put-requires
+put-requires c =
+    let t = c.args.tables.now in
+    let p = c.args.priors.now in
+    let l = c.args.listing.now in
+    let o = c.args.output.now in
+    let n = listed_node c.in-Some.node in
+    let rest = nodes_left c.next.new.self in
+    let found = sym c.divergence.ensures ∙ c.in-Ok-Some.is ∙ ap Ok c.in-Ok-Some.field-0-is in
+    let on = walk_next t.g.now t.d.now p.nodes.now p.children.now p.layer n rest (nodes_left c.loop-node.nodes) _ c.in-Some.ensures found in
+    let out = c.loop-node.output in
+    let sofar = rw on at c.loop-node.invariant.filled in
+    let room = filled_room (walk_over t p l) o.addresses.now o.figures.now c.requires.addresses_room c.requires.figures_room out.addresses.now out.figures.now c.loop-node.filled.places c.loop-node.filled.skipped n.address c.in-Ok-Some.x (walk t.g.now t.d.now p.nodes.now p.children.now p.layer rest) sofar in
+    record { addresses_room = room.0; figures_room = room.1 }
 
-pub node_divergence-x-requires : goal.node_divergence-x-requires
-node_divergence-x-requires c =
-    let to = next c.args.book.now c.shared_slice_known-1.given c.loop-i.i c.children_end-to.result c.args.used c.loop-i-test.true c.loop-i.invariant.1 c.children_end-to.ensures in
-    record { i_lt_to = to.later; to_le_max_entries = omega (arith, to.within, c.requires.used_le_max_entries); to_in_bounds = omega (arith, to.within, c.requires.used_in_bounds); layer_value = c.requires.layer_value; d_value = c.requires.d_value }
+pub loop-node-preserved-in-Ok-Some : goal.loop-node-preserved-in-Ok-Some
+loop-node-preserved-in-Ok-Some c =
+    let t = c.args.tables.now in
+    let p = c.args.priors.now in
+    let l = c.args.listing.now in
+    let o = c.args.output.now in
+    let n = listed_node c.in-Some.node in
+    let rest = nodes_left c.next.new.self in
+    let found = sym c.divergence.ensures ∙ c.in-Ok-Some.is ∙ ap Ok c.in-Ok-Some.field-0-is in
+    let on = walk_next t.g.now t.d.now p.nodes.now p.children.now p.layer n rest (nodes_left c.loop-node.nodes) _ c.in-Some.ensures found in
+    let out = c.loop-node.output in
+    let sofar = rw on at c.loop-node.invariant.filled in
+    record {
+      filled = rw (c.put.ensures.addresses, c.put.ensures.figures, c.rank.ensures) (filled_put (walk_over t p l) o.addresses.now o.figures.now c.requires.addresses_room c.requires.figures_room out.addresses.now out.figures.now c.loop-node.filled.places c.loop-node.filled.skipped n.address c.in-Ok-Some.x (walk t.g.now t.d.now p.nodes.now p.children.now p.layer rest) sofar);
+      few = omega (arith, ap (λ ns. length {A = Node} ns) c.in-Some.ensures, c.loop-node.invariant.few);
+      same_addresses = c.put.ensures.same_addresses ∙ c.loop-node.invariant.same_addresses;
+      same_figures = c.put.ensures.same_figures ∙ c.loop-node.invariant.same_figures;
+    }
 
-pub put-filling-requires : goal.put-filling-requires
-put-filling-requires c =
-    let g = c.args.g.now in
-    let d = c.args.d.now in
-    let nodes = c.args.nodes.now in
-    let children = c.args.children.now in
-    let layer = c.args.layer in
-    let book = c.args.book.now in
-    let used = c.args.used in
-    let i = c.loop-i.i in
-    let to = next book c.shared_slice_known-1.given i c.children_end-to.result used c.loop-i-test.true c.loop-i.invariant.1 c.children_end-to.ensures in
-    let whole = walk_from g d nodes children layer book 0 used in
-    let x = divergence_at g d nodes children layer book i c.children_end-to.result in
-    let sofar = subst (λ (w : Walk). FilledTo whole w c.args.addresses.now c.loop-i.addresses c.args.figures.now c.loop-i.figures c.loop-i.filling) (walk_next g d nodes children layer book i c.children_end-to.result used to) c.loop-i.invariant.2 in
-    let is : c.node_divergence-x.result ≡ x = c.node_divergence-x.ensures in
-    let long = c.requires.used_in_bounds_2 in
-    rw is (record {
-      x_in_bounds = room_addresses whole c.args.addresses.now c.args.figures.now c.loop-i.addresses c.loop-i.figures c.loop-i.filling (node_at book i) x (walk_from g d nodes children layer book c.children_end-to.result used) sofar long c.requires.used_in_bounds_3;
-      x_in_bounds_2 = room_figures whole c.args.addresses.now c.args.figures.now c.loop-i.addresses c.loop-i.figures c.loop-i.filling (node_at book i) x (walk_from g d nodes children layer book c.children_end-to.result used) sofar long c.requires.used_in_bounds_3;
-      skipped_bound = omega (arith, c.loop-i.invariant.3, c.requires.used_le_max_entries);
-    })
+pub loop-node-preserved : goal.loop-node-preserved
+loop-node-preserved c =
+    let t = c.args.tables.now in
+    let p = c.args.priors.now in
+    let l = c.args.listing.now in
+    let o = c.args.output.now in
+    let n = listed_node c.in-Some.node in
+    let rest = nodes_left c.next.new.self in
+    let found = sym c.divergence.ensures ∙ c.in-Ok-None.is ∙ ap Ok c.in-Ok-None.field-0-is in
+    let on = walk_next t.g.now t.d.now p.nodes.now p.children.now p.layer n rest (nodes_left c.loop-node.nodes) _ c.in-Some.ensures found in
+    let out = c.loop-node.output in
+    let sofar = rw on at c.loop-node.invariant.filled in
+    record {
+      filled = filled_skipped (walk_over t p l) o.addresses.now o.figures.now out.addresses.now out.figures.now c.loop-node.filled.places c.loop-node.filled.skipped n.address (walk t.g.now t.d.now p.nodes.now p.children.now p.layer rest) sofar;
+      few = omega (arith, ap (λ ns. length {A = Node} ns) c.in-Some.ensures, c.loop-node.invariant.few);
+      same_addresses = c.loop-node.invariant.same_addresses;
+      same_figures = c.loop-node.invariant.same_figures;
+    }
 
-pub loop-i-smaller : goal.loop-i-smaller
-loop-i-smaller c =
-    let to = next c.args.book.now c.shared_slice_known-1.given c.loop-i.i c.children_end-to.result c.args.used c.loop-i-test.true c.loop-i.invariant.1 c.children_end-to.ensures in
-    omega (arith, to.later, to.within)
-
-pub loop-i-preserved : goal.loop-i-preserved
-loop-i-preserved c =
-    let g = c.args.g.now in
-    let d = c.args.d.now in
-    let nodes = c.args.nodes.now in
-    let children = c.args.children.now in
-    let layer = c.args.layer in
-    let book = c.args.book.now in
-    let used = c.args.used in
-    let i = c.loop-i.i in
-    let to = next book c.shared_slice_known-1.given i c.children_end-to.result used c.loop-i-test.true c.loop-i.invariant.1 c.children_end-to.ensures in
-    let whole = walk_from g d nodes children layer book 0 used in
-    let rest = walk_from g d nodes children layer book c.children_end-to.result used in
-    let x = divergence_at g d nodes children layer book i c.children_end-to.result in
-    let f = c.loop-i.filling in
-    let sofar = subst (λ (w : Walk). FilledTo whole w c.args.addresses.now c.loop-i.addresses c.args.figures.now c.loop-i.figures f) (walk_next g d nodes children layer book i c.children_end-to.result used to) c.loop-i.invariant.2 in
-    let step = filled_next whole c.args.addresses.now c.args.figures.now c.loop-i.addresses c.loop-i.figures f (node_at book i) x rest sofar c.requires.used_in_bounds_2 c.requires.used_in_bounds_3 in
-    let x-is : c.node_divergence-x.result ≡ x = c.node_divergence-x.ensures in
-    let filling-is : c.put-filling.result ≡ filling_of f x = c.put-filling.ensures.value ∙ ap (filling_of f) x-is in
-    let addresses-are : c.put-filling.new.addresses ≡ put_address c.loop-i.addresses f.places (node_at book i) x = c.put-filling.ensures.addresses_after ∙ ap₂ (λ (k : ℕ) (y : NodeDivergence). put_address c.loop-i.addresses f.places k y) c.rank_at.ensures x-is in
-    let figures-are : c.put-filling.new.figures ≡ put_figure c.loop-i.figures f.places x = c.put-filling.ensures.figures_after ∙ ap (put_figure c.loop-i.figures f.places) x-is in (
-      to.within,
-      to.ends,
-      rw (addresses-are, figures-are, filling-is) step,
-      omega (arith, ap (λ (l : Filling). l.skipped) filling-is, filling_skipped f x, passed_le x, c.loop-i.invariant.3, to.later),
-    )
-
-pub shape_of-addresses : goal.shape_of-addresses
-shape_of-addresses c = c.loop-i.invariant.2.addresses_long
-
-pub shape_of-figures : goal.shape_of-figures
-shape_of-figures c = c.loop-i.invariant.2.figures_long
+pub unreachable-requires : goal.unreachable-requires
+unreachable-requires c =
+    let t = c.args.tables.now in
+    let p = c.args.priors.now in
+    let l = c.args.listing.now in
+    let o = c.args.output.now in
+    let n = listed_node c.in-Some.node in
+    let rest = nodes_left c.next.new.self in
+    let found = sym c.divergence.ensures ∙ c.in-Err.is in
+    let on = walk_next t.g.now t.d.now p.nodes.now p.children.now p.layer n rest (nodes_left c.loop-node.nodes) _ c.in-Some.ensures found in
+    let out = c.loop-node.output in
+    let sofar = rw on at c.loop-node.invariant.filled in
+    filled_refused (walk_over t p l) o.addresses.now o.figures.now out.addresses.now out.figures.now c.loop-node.filled.places c.loop-node.filled.skipped n.address c.in-Err.field-0 (walk t.g.now t.d.now p.nodes.now p.children.now p.layer rest) sofar
 
 pub returns : goal.returns
 returns c =
-    let g = c.args.g.now in
-    let d = c.args.d.now in
-    let nodes = c.args.nodes.now in
-    let children = c.args.children.now in
-    let layer = c.args.layer in
-    let book = c.args.book.now in
-    let used = c.args.used in
-    let whole = walk_from g d nodes children layer book 0 used in
-    let sofar = subst (λ (w : Walk). FilledTo whole w c.args.addresses.now c.loop-i.addresses c.args.figures.now c.loop-i.figures c.loop-i.filling) (walk_end g d nodes children layer book c.loop-i.i used c.loop-i-test.false) c.loop-i.invariant.2 in record { value = end_skipped whole c.args.addresses.now c.args.figures.now c.loop-i.addresses c.loop-i.figures c.loop-i.filling sofar; addresses_after = end_addresses whole c.args.addresses.now c.args.figures.now c.loop-i.addresses c.loop-i.figures c.loop-i.filling sofar; figures_after = end_figures whole c.args.addresses.now c.args.figures.now c.loop-i.addresses c.loop-i.figures c.loop-i.filling sofar }
+    let t = c.args.tables.now in
+    let p = c.args.priors.now in
+    let l = c.args.listing.now in
+    let o = c.args.output.now in
+    let out = c.loop-node.output in
+    let sofar = rw (c.in_default.ensures, walk_end t.g.now t.d.now p.nodes.now p.children.now p.layer) at c.loop-node.invariant.filled in
+    let whole = walk_over t p l in
+    record {
+      same_addresses = c.loop-node.invariant.same_addresses;
+      same_figures = c.loop-node.invariant.same_figures;
+      places = end_places whole o.addresses.now o.figures.now out.addresses.now out.figures.now c.loop-node.filled.places c.loop-node.filled.skipped sofar;
+      skipped = end_skipped whole o.addresses.now o.figures.now out.addresses.now out.figures.now c.loop-node.filled.places c.loop-node.filled.skipped sofar;
+      addresses_after = end_addresses whole o.addresses.now o.figures.now out.addresses.now out.figures.now c.loop-node.filled.places c.loop-node.filled.skipped sofar;
+      figures_after = end_figures whole o.addresses.now o.figures.now out.addresses.now out.figures.now c.loop-node.filled.places c.loop-node.filled.skipped sofar;
+    }

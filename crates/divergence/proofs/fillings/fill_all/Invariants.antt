@@ -1,16 +1,18 @@
--- `fill_all` meets its contract: the output so far with what the nodes still to come put from the next place on is the output with all nodes.
-use Rattle.std.proofs.Common.{◌≡◌, ◌-◌, ◌≤◌}
-use Rattle.divergence.specs.Parts.{part, leading}
-use Rattle.divergence.proofs.WalkLaws.{walk_from}
+-- `fill_all` meets its contract: the outputs with what the nodes still to come put from the next place on are the outputs with all nodes.
+use Rattle.std.proofs.Common.{◌≡◌, ◌+◌, ◌≤◌, length}
+use Rattle.entries.specs.Limits.{max_entries}
+use Rattle.divergence.specs.Listing.{nodes_left}
+use Rattle.divergence.specs.Statistics.{walk, walk_over}
 use Rattle.divergence.proofs.FillLaws.{FilledTo}
 use Rattle.divergence.proofs.fillings.fill_all.Given as goal
 
-abbrev pub invariant-loop-i : goal.invariant-loop-i
-invariant-loop-i l =
-    (l.i ≤ l.used)
-    × (leading (part l.book l.i l.used) ≡ 0)
-    × FilledTo (walk_from l.g l.d l.nodes l.children l.layer l.book 0 l.used) (walk_from l.g l.d l.nodes l.children l.layer l.book l.i l.used) l.initial.addresses l.addresses l.initial.figures l.figures l.filling
-    × (l.filling.skipped ≤ l.i)
+abbrev pub invariant-loop-node : goal.invariant-loop-node
+invariant-loop-node l = record {
+  filled : FilledTo (walk_over l.tables l.priors l.listing) (walk l.tables.g.now l.tables.d.now l.priors.nodes.now l.priors.children.now l.priors.layer (nodes_left l.nodes)) l.fn.output.addresses.now l.output.addresses.now l.fn.output.figures.now l.output.figures.now l.filled.places l.filled.skipped;
+  few : l.filled.places + l.filled.skipped + length (nodes_left l.nodes) ≤ max_entries;
+  same_addresses : l.output.addresses.ghost_name ≡ l.fn.output.addresses.ghost_name;
+  same_figures : l.output.figures.ghost_name ≡ l.fn.output.figures.ghost_name;
+}
 
-abbrev pub decreases-loop-i : goal.decreases-loop-i
-decreases-loop-i l = l.used - l.i
+abbrev pub decreases-loop-node : goal.decreases-loop-node
+decreases-loop-node l = length (nodes_left l.nodes)

@@ -1,61 +1,61 @@
--- `first_stop` meets its contract: whether all nodes are stopped is whether those still to come are.
-use Rattle.std.proofs.Common.{◌≡◌, ℕ, List, sym, ap, ◌∙◌, ap₂, arith}
-use Rattle.priors.specs.declared.refusals.Checked.{Checked}
-use Rattle.priors.specs.Priors.{records, find_record}
-use Rattle.divergence.specs.declared.divergences.NodeFit.{NodeFit}
-use Rattle.divergence.specs.Nodes.{Node}
-use Rattle.divergence.specs.Parts.{node_at, evidence_at}
-use Rattle.divergence.specs.Fits.{fit_of}
+-- `first_stop` meets its contract: the nodes still to come are stopped where all are.
+use Rattle.std.proofs.Common.{◌≡◌, sym, refl, ap, ◌∙◌}
+use Rattle.std.specs.Prelude.{Option, None, Err}
+use Rattle.priors.specs.Priors.{Counts, records, find_record, prior_of_node}
+use Rattle.divergence.specs.Listing.{listed_node, nodes_left}
+use Rattle.divergence.specs.Divergence.{divergence, node_divergence}
 use Rattle.divergence.specs.Statistics.{walk}
-use Rattle.divergence.specs.Fillings.{fit_stop, stop_of}
-use Rattle.divergence.proofs.WalkLaws.{first, next, walk_from}
-use Rattle.divergence.proofs.FillLaws.{then_stop, stop_next, stop_end}
+use Rattle.divergence.specs.Fillings.{stop_of}
+use Rattle.divergence.proofs.FitLaws.{prior_none, prior_found, divergence_none, divergence_some, fit_divergence}
+use Rattle.divergence.proofs.WalkLaws.{walk_next, walk_end}
+use Rattle.divergence.proofs.FillLaws.{stop_placed, stop_skipped, stop_refused}
 use Rattle.divergence.proofs.fillings.first_stop.Goals as goal
 
-pub loop-i-init : goal.loop-i-init
-loop-i-init c =
-    let book = c.args.book.now in
-    let at = first book c.children_end-i.result c.args.used c.children_end-i.ensures in
-    (at.within, at.ends, λ G D e. sym (ap (λ (ns : List Node). stop_of (walk G D c.args.nodes.now c.args.children.now c.args.layer ns)) at.nodes_are))
+pub returns-in-Err : goal.returns-in-Err
+returns-in-Err c =
+    let g = c.args.tables.now.g.now in
+    let d = c.args.tables.now.d.now in
+    let p = c.args.priors.now in
+    let n = listed_node c.in-Some.node in
+    let prior = c.in-Some-prior.prior in
+    let counts = prior_of_node prior.children.now prior.node in
+    let found = prior_found p n.address prior (rw c.rank.ensures at c.in-Some-prior.ensures.found) c.in-Some-prior.ensures.lent in
+    let is = ap (λ (o : Option Counts). node_divergence g d o n.evidence) found ∙ divergence_some g d counts n.evidence ∙ ap (fit_divergence g d counts n.evidence) (sym c.fit.ensures ∙ c.in-Err.is) in
+    let rest = nodes_left c.next.new.self in
+    ap Err c.refusal.ensures
+    ∙ sym (sym c.loop-node.invariant.0 ∙ ap stop_of (walk_next g d p.nodes.now p.children.now p.layer n rest (nodes_left c.loop-node.nodes) _ c.in-Some.ensures is) ∙ stop_refused n.address c.in-Err.reason (walk g d p.nodes.now p.children.now p.layer rest))
 
-pub children_end-to-requires : goal.children_end-to-requires
-children_end-to-requires c = record { i_le_used = omega arith; used_in_bounds = omega arith }
-
-pub fit-f-requires : goal.fit-f-requires
-fit-f-requires c =
-    let to = next c.args.book.now c.shared_slice_known-1.given c.loop-i.i c.children_end-to.result c.args.used c.loop-i-test.true c.loop-i.invariant.1 c.children_end-to.ensures in
-    record { i_lt_to = to.later; to_le_max_entries = omega (arith, to.within, c.requires.used_le_max_entries); to_in_bounds = omega (arith, to.within, c.requires.used_in_bounds); layer_value = c.requires.layer_value }
-
-pub loop-i-smaller : goal.loop-i-smaller
-loop-i-smaller c =
-    let to = next c.args.book.now c.shared_slice_known-1.given c.loop-i.i c.children_end-to.result c.args.used c.loop-i-test.true c.loop-i.invariant.1 c.children_end-to.ensures in
-    omega (arith, to.later, to.within)
-
-pub loop-i-preserved : goal.loop-i-preserved
-loop-i-preserved c =
-    let book = c.args.book.now in
-    let nodes = c.args.nodes.now in
-    let children = c.args.children.now in
-    let layer = c.args.layer in
-    let i = c.loop-i.i in
-    let to = next book c.shared_slice_known-1.given i c.children_end-to.result c.args.used c.loop-i-test.true c.loop-i.invariant.1 c.children_end-to.ensures in
-    let stop : c.stop_at.result ≡ fit_stop (node_at book i) (fit_of children c.args.size (find_record layer (node_at book i) (records nodes)) (evidence_at book i c.children_end-to.result)) = c.stop_at.ensures ∙ ap₂ (λ (k : ℕ) (f : NodeFit). fit_stop k f) c.rank_at.ensures c.fit-f.ensures in (
-      to.within,
-      to.ends,
-      λ G D e. sym (stop_next G D nodes children layer book i c.children_end-to.result c.args.used to ∙ ap (λ (s : Checked). then_stop s (stop_of (walk_from G D nodes children layer book c.children_end-to.result c.args.used))) (ap (λ (n : ℕ). fit_stop (node_at book i) (fit_of children n (find_record layer (node_at book i) (records nodes)) (evidence_at book i c.children_end-to.result))) e ∙ sym stop ∙ c.in-Passed.is)) ∙ c.loop-i.invariant.2 G D e,
+pub loop-node-preserved-in_default-fit : goal.loop-node-preserved-in_default-fit
+loop-node-preserved-in_default-fit c =
+    let g = c.args.tables.now.g.now in
+    let d = c.args.tables.now.d.now in
+    let p = c.args.priors.now in
+    let n = listed_node c.in-Some.node in
+    let prior = c.in-Some-prior.prior in
+    let counts = prior_of_node prior.children.now prior.node in
+    let found = prior_found p n.address prior (rw c.rank.ensures at c.in-Some-prior.ensures.found) c.in-Some-prior.ensures.lent in
+    let is = ap (λ (o : Option Counts). node_divergence g d o n.evidence) found ∙ divergence_some g d counts n.evidence ∙ ap (fit_divergence g d counts n.evidence) (sym c.fit.ensures ∙ c.in_default-fit.is) in
+    let rest = nodes_left c.next.new.self in (
+      sym (ap stop_of (walk_next g d p.nodes.now p.children.now p.layer n rest (nodes_left c.loop-node.nodes) _ c.in-Some.ensures is) ∙ stop_placed n.address (divergence g d counts n.evidence) (walk g d p.nodes.now p.children.now p.layer rest)) ∙ c.loop-node.invariant.0,
+      refl,
     )
 
-pub returns-in-Refused : goal.returns-in-Refused
-returns-in-Refused c =
-    let book = c.args.book.now in
-    let nodes = c.args.nodes.now in
-    let children = c.args.children.now in
-    let layer = c.args.layer in
-    let i = c.loop-i.i in
-    let to = next book c.shared_slice_known-1.given i c.children_end-to.result c.args.used c.loop-i-test.true c.loop-i.invariant.1 c.children_end-to.ensures in
-    let stop : c.stop_at.result ≡ fit_stop (node_at book i) (fit_of children c.args.size (find_record layer (node_at book i) (records nodes)) (evidence_at book i c.children_end-to.result)) = c.stop_at.ensures ∙ ap₂ (λ (k : ℕ) (f : NodeFit). fit_stop k f) c.rank_at.ensures c.fit-f.ensures in
-    λ G D e. sym (sym (c.loop-i.invariant.2 G D e) ∙ stop_next G D nodes children layer book i c.children_end-to.result c.args.used to ∙ ap (λ (s : Checked). then_stop s (stop_of (walk_from G D nodes children layer book c.children_end-to.result c.args.used))) (ap (λ (n : ℕ). fit_stop (node_at book i) (fit_of children n (find_record layer (node_at book i) (records nodes)) (evidence_at book i c.children_end-to.result))) e ∙ sym stop ∙ c.in-Refused.is))
+pub loop-node-preserved : goal.loop-node-preserved
+loop-node-preserved c =
+    let g = c.args.tables.now.g.now in
+    let d = c.args.tables.now.d.now in
+    let p = c.args.priors.now in
+    let n = listed_node c.in-Some.node in
+    let none : find_record p.layer n.address (records p.nodes.now) ≡ None = sym (rw c.rank.ensures at c.in_default-prior.ensures.found) in
+    let is = ap (λ (o : Option Counts). node_divergence g d o n.evidence) (prior_none p.nodes.now p.children.now p.layer n.address none) ∙ divergence_none g d n.evidence in
+    let rest = nodes_left c.next.new.self in (
+      sym (ap stop_of (walk_next g d p.nodes.now p.children.now p.layer n rest (nodes_left c.loop-node.nodes) _ c.in-Some.ensures is) ∙ stop_skipped n.address (walk g d p.nodes.now p.children.now p.layer rest)) ∙ c.loop-node.invariant.0,
+      refl,
+    )
 
 pub returns : goal.returns
 returns c =
-    λ G D e. sym (sym (c.loop-i.invariant.2 G D e) ∙ stop_end G D c.args.nodes.now c.args.children.now c.args.layer c.args.book.now c.loop-i.i c.args.used c.loop-i-test.false)
+    let g = c.args.tables.now.g.now in
+    let d = c.args.tables.now.d.now in
+    let p = c.args.priors.now in
+    sym (sym c.loop-node.invariant.0 ∙ ap (λ ns. stop_of (walk g d p.nodes.now p.children.now p.layer ns)) c.in_default.ensures ∙ ap stop_of (walk_end g d p.nodes.now p.children.now p.layer))

@@ -1,16 +1,14 @@
--- `first_stop` meets its contract: whether all nodes are stopped is whether those still to come are.
-use Rattle.std.proofs.Common.{◌≡◌, ◌-◌, ◌≤◌, List, length}
-use lib.Ieee.{Float}
-use Rattle.divergence.specs.Parts.{part, leading}
+-- `first_stop` meets its contract: the nodes still to come are stopped where all are.
+use Rattle.std.proofs.Common.{◌≡◌, length}
+use Rattle.divergence.specs.Listing.{nodes_left}
+use Rattle.divergence.specs.Statistics.{walk, walk_over}
 use Rattle.divergence.specs.Fillings.{stop_of}
-use Rattle.divergence.proofs.WalkLaws.{walk_from}
 use Rattle.divergence.proofs.fillings.first_stop.Given as goal
 
-abbrev pub invariant-loop-i : goal.invariant-loop-i
-invariant-loop-i l =
-    (l.i ≤ l.used)
-    × (leading (part l.book l.i l.used) ≡ 0)
-    × ((G D : List Float) → length G ≡ l.size → stop_of (walk_from G D l.nodes l.children l.layer l.book l.i l.used) ≡ stop_of (walk_from G D l.nodes l.children l.layer l.book 0 l.used))
+abbrev pub invariant-loop-node : goal.invariant-loop-node
+invariant-loop-node l =
+    (stop_of (walk l.tables.g.now l.tables.d.now l.priors.nodes.now l.priors.children.now l.priors.layer (nodes_left l.nodes)) ≡ stop_of (walk_over l.tables l.priors l.listing))
+    × (l.size ≡ length l.tables.g.now)
 
-abbrev pub decreases-loop-i : goal.decreases-loop-i
-decreases-loop-i l = l.used - l.i
+abbrev pub decreases-loop-node : goal.decreases-loop-node
+decreases-loop-node l = length (nodes_left l.nodes)

@@ -1,59 +1,38 @@
 -- `all_node_kl` meets its contract: a check's refusal is the reading's, and where all pass the divergences of the listed nodes fill the output.
-use Rattle.std.proofs.Common.{◌≡◌, ℕ, List, sym, ap, ◌∙◌, w32}
+use Rattle.std.proofs.Common.{List, ap, sym, ◌∙◌}
+use Rattle.std.proofs.lemmas.Result.{err_from_is_err_and}
+use Rattle.priors.specs.Priors.{layer_of}
 use Rattle.priors.specs.Rows.{Row}
-use Rattle.priors.specs.Refusals.{checked_number}
 use Rattle.divergence.specs.Nodes.{listed_nodes}
-use Rattle.divergence.specs.Readings.{nodes_of, room, all_listed, all_reading, form_refusal}
+use Rattle.divergence.specs.Parts.{nodes_from}
+use Rattle.divergence.specs.Readings.{nodes_of, room, all_listed, all_reading}
 use Rattle.divergence.specs.Asked.{lent_output, all_telling}
 use Rattle.divergence.proofs.WalkLaws.{part_all}
-use Rattle.divergence.proofs.CheckLaws.{refused_by, passed_by, tables_pass, priors_pass, used_fits, used_le}
-use Rattle.priors.specs.Priors.{layer_of}
-use mir.ValLaws.{to_z-of_z}
+use Rattle.divergence.proofs.CheckLaws.{refused_by, passed_by}
 use Rattle.divergence.proofs.kl_readings.all_node_kl.Goals as goal
 
-pub all_listed-requires : goal.all_listed-requires
-all_listed-requires c =
-    let g = c.args.g.now in
-    let d = c.args.d.now in
-    let nodes = c.args.nodes.now in
-    let children = c.args.children.now in
-    let layer = c.layer_of-layer.result in
-    let book = c.args.book.now in
-    let addresses = c.args.addresses.now in
-    let figures = c.args.figures.now in
-    let t = c.args.t in
-    let queue = c.args.queue.now in
-    let passed = sym c.tested.ensures ∙ ap checked_number c.in-Passed.is in record { used_le_max_entries = used_le t book queue nodes children layer g d passed; used_in_bounds = used_fits t book queue nodes children layer g d passed; layer_value = priors_pass t book queue nodes children layer g d passed; d_value = tables_pass t book queue nodes children layer g d passed }
-
-pub returns-in-Refused : goal.returns-in-Refused
+pub returns-in_err-lent-clause-told : goal.returns-in_err-lent-clause-told
 unfolding all_reading
-returns-in-Refused c =
-    let g = c.args.g.now in
-    let d = c.args.d.now in
-    let nodes = c.args.nodes.now in
-    let children = c.args.children.now in
-    let layer = c.layer_of-layer.result in
-    let book = c.args.book.now in
-    let addresses = c.args.addresses.now in
-    let figures = c.args.figures.now in
-    let t = c.args.t in
-    let below : layer ≡ layer_of c.args.floor = c.layer_of-layer.ensures ∙ ap layer_of (to_z-of_z w32 c.args.floor c.ranges.floor) in
-    let is = refused_by t book c.args.queue.now nodes children layer g d c.in-Refused.r (all_listed g d nodes children layer (nodes_of t book) (room addresses figures)) (sym (ap checked_number c.in-Refused.is) ∙ c.tested.ensures) in
-    ap (all_telling (lent_output addresses figures)) (is ∙ ap (λ (l : ℕ). all_reading (form_refusal t book c.args.queue.now) g d nodes children l (nodes_of t book) (room addresses figures)) below)
+returns-in_err-lent-clause-told c =
+    let s = c.args.seen.now in
+    let t = c.args.tables.now in
+    let p = c.args.priors.now in
+    let o = c.args.output.now in
+    let out = err_from_is_err_and c.from_residual.result c.from_residual.ensures.1 in
+    rw (out.1, out.2)
+    (ap (all_telling (lent_output o.addresses.now o.figures.now)) (refused_by s.tracker s.book.now s.queue.now p.nodes.now p.children.now (layer_of p.floor) t.g.now t.d.now c.in_err-lent.field-0.0 (all_listed t.g.now t.d.now p.nodes.now p.children.now (layer_of p.floor) (nodes_of s.tracker s.book.now) (room o.addresses.now o.figures.now)) (c.in_err-lent.ensures {u = tt}).number))
 
-pub returns-in-Passed : goal.returns-in-Passed
+pub returns-clause-told : goal.returns-clause-told
 unfolding all_reading
-returns-in-Passed c =
-    let g = c.args.g.now in
-    let d = c.args.d.now in
-    let nodes = c.args.nodes.now in
-    let children = c.args.children.now in
-    let layer = c.layer_of-layer.result in
-    let book = c.args.book.now in
-    let addresses = c.args.addresses.now in
-    let figures = c.args.figures.now in
-    let t = c.args.t in
-    let passed = sym c.tested.ensures ∙ ap checked_number c.in-Passed.is in
-    let below : layer ≡ layer_of c.args.floor = c.layer_of-layer.ensures ∙ ap layer_of (to_z-of_z w32 c.args.floor c.ranges.floor) in
-    let is = ap (λ (rs : List Row). all_listed g d nodes children layer (listed_nodes rs) (room addresses figures)) (part_all book t.used) ∙ passed_by t book c.args.queue.now nodes children layer g d passed (all_listed g d nodes children layer (nodes_of t book) (room addresses figures)) in
-    (λ i. record { answer = c.all_listed.ensures.result_value i; output = lent_output (c.all_listed.ensures.addresses_after i) (c.all_listed.ensures.figures_after i) }) ∙ ap (all_telling (lent_output addresses figures)) (is ∙ ap (λ (l : ℕ). all_reading (form_refusal t book c.args.queue.now) g d nodes children l (nodes_of t book) (room addresses figures)) below)
+returns-clause-told c =
+    let s = c.args.seen.now in
+    let t = c.args.tables.now in
+    let p = c.args.priors.now in
+    let o = c.args.output.now in
+    let lent = (c.in_ok-lent.ensures {u = tt}).lent in
+    let have = room o.addresses.now o.figures.now in
+    c.all_listed.ensures.told
+    ∙ ap (all_telling (lent_output o.addresses.now o.figures.now))
+    ((λ j. all_listed (lent.g_is j) (lent.d_is j) (lent.nodes_are j) (lent.children_are j) (lent.layer_is j) (nodes_from (lent.book_is j) 0 (lent.used_is j)) have)
+    ∙ ap (λ (rs : List Row). all_listed t.g.now t.d.now p.nodes.now p.children.now (layer_of p.floor) (listed_nodes rs) have) (part_all s.book.now s.tracker.used)
+    ∙ passed_by s.tracker s.book.now s.queue.now p.nodes.now p.children.now (layer_of p.floor) t.g.now t.d.now (sym (c.in_ok-lent.ensures {u = tt}).number) (all_listed t.g.now t.d.now p.nodes.now p.children.now (layer_of p.floor) (nodes_of s.tracker s.book.now) have))

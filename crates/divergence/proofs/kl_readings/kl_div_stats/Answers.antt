@@ -1,50 +1,34 @@
 -- `kl_div_stats` meets its contract: a check's refusal is the reading's, and where all pass the statistics are those of the listed nodes.
-use Rattle.std.proofs.Common.{◌≡◌, ℕ, List, sym, ap, ◌∙◌, ap₂, w32}
-use Rattle.priors.specs.Rows.{Row}
-use Rattle.priors.specs.Refusals.{checked_number}
-use Rattle.divergence.specs.Nodes.{listed_nodes}
-use Rattle.divergence.specs.Statistics.{walk}
-use Rattle.divergence.specs.Readings.{nodes_of, sequence_len, stats_reading_of, stats_reading, form_refusal}
-use Rattle.divergence.proofs.WalkLaws.{part_all}
-use Rattle.divergence.proofs.CheckLaws.{refused_by, passed_by, tables_pass, priors_pass, used_fits, used_le}
+use Rattle.std.proofs.Common.{List, ap, sym, ◌∙◌}
+use Rattle.std.proofs.lemmas.Result.{err_from_is_err_and}
 use Rattle.priors.specs.Priors.{layer_of}
-use mir.ValLaws.{to_z-of_z}
+use Rattle.priors.specs.Rows.{Row}
+use Rattle.divergence.specs.Nodes.{listed_nodes}
+use Rattle.divergence.specs.Parts.{nodes_from}
+use Rattle.divergence.specs.Statistics.{walk}
+use Rattle.divergence.specs.Readings.{nodes_of, sequence_len, stats_reading_of, stats_reading}
+use Rattle.divergence.proofs.WalkLaws.{part_all}
+use Rattle.divergence.proofs.CheckLaws.{refused_by, passed_by}
 use Rattle.divergence.proofs.kl_readings.kl_div_stats.Goals as goal
 
-pub stats_of-requires : goal.stats_of-requires
-stats_of-requires c =
-    let book = c.args.book.now in
-    let queue = c.args.queue.now in
-    let nodes = c.args.nodes.now in
-    let children = c.args.children.now in
-    let layer = c.layer_of-layer.result in
-    let passed = sym c.tested.ensures ∙ ap checked_number c.in-Passed.is in record { used_le_max_entries = used_le c.args.t book queue nodes children layer c.args.g.now c.args.d.now passed; used_in_bounds = used_fits c.args.t book queue nodes children layer c.args.g.now c.args.d.now passed; layer_value = priors_pass c.args.t book queue nodes children layer c.args.g.now c.args.d.now passed; d_value = tables_pass c.args.t book queue nodes children layer c.args.g.now c.args.d.now passed }
-
-pub returns-in-Refused : goal.returns-in-Refused
+pub returns-in_err-lent : goal.returns-in_err-lent
 unfolding stats_reading
-returns-in-Refused c =
-    let book = c.args.book.now in
-    let nodes = c.args.nodes.now in
-    let children = c.args.children.now in
-    let layer = c.layer_of-layer.result in
-    let g = c.args.g.now in
-    let d = c.args.d.now in
-    let below : layer ≡ layer_of c.args.floor = c.layer_of-layer.ensures ∙ ap layer_of (to_z-of_z w32 c.args.floor c.ranges.floor) in
-    refused_by c.args.t book c.args.queue.now nodes children layer g d c.in-Refused.r (stats_reading_of (sequence_len c.args.t) (walk g d nodes children layer (nodes_of c.args.t book))) (sym (ap checked_number c.in-Refused.is) ∙ c.tested.ensures)
-    ∙ ap (λ (l : ℕ). stats_reading (form_refusal c.args.t book c.args.queue.now) g d nodes children l (nodes_of c.args.t book) (sequence_len c.args.t)) below
+returns-in_err-lent c =
+    let s = c.args.seen.now in
+    let t = c.args.tables.now in
+    let p = c.args.priors.now in
+    let out = err_from_is_err_and c.from_residual.result c.from_residual.ensures.1 in
+    rw (out.1, out.2)
+    (refused_by s.tracker s.book.now s.queue.now p.nodes.now p.children.now (layer_of p.floor) t.g.now t.d.now c.in_err-lent.field-0.0 (stats_reading_of (sequence_len s.tracker) (walk t.g.now t.d.now p.nodes.now p.children.now (layer_of p.floor) (nodes_of s.tracker s.book.now))) (c.in_err-lent.ensures {u = tt}).number)
 
-pub returns-in-Passed : goal.returns-in-Passed
+pub returns : goal.returns
 unfolding stats_reading
-returns-in-Passed c =
-    let book = c.args.book.now in
-    let nodes = c.args.nodes.now in
-    let children = c.args.children.now in
-    let layer = c.layer_of-layer.result in
-    let g = c.args.g.now in
-    let d = c.args.d.now in
-    let passed = sym c.tested.ensures ∙ ap checked_number c.in-Passed.is in
-    let below : layer ≡ layer_of c.args.floor = c.layer_of-layer.ensures ∙ ap layer_of (to_z-of_z w32 c.args.floor c.ranges.floor) in
+returns c =
+    let s = c.args.seen.now in
+    let t = c.args.tables.now in
+    let p = c.args.priors.now in
+    let lent = (c.in_ok-lent.ensures {u = tt}).lent in
     c.stats_of.ensures
-    ∙ ap₂ (λ (n : ℕ) (rs : List Row). stats_reading_of n (walk g d nodes children layer (listed_nodes rs))) c.sequence_len.ensures (part_all book c.args.t.used)
-    ∙ passed_by c.args.t book c.args.queue.now nodes children layer g d passed (stats_reading_of (sequence_len c.args.t) (walk g d nodes children layer (nodes_of c.args.t book)))
-    ∙ ap (λ (l : ℕ). stats_reading (form_refusal c.args.t book c.args.queue.now) g d nodes children l (nodes_of c.args.t book) (sequence_len c.args.t)) below
+    ∙ (λ j. stats_reading_of (c.sequence_len.ensures j) (walk (lent.g_is j) (lent.d_is j) (lent.nodes_are j) (lent.children_are j) (lent.layer_is j) (nodes_from (lent.book_is j) 0 (lent.used_is j))))
+    ∙ ap (λ (rs : List Row). stats_reading_of (sequence_len s.tracker) (walk t.g.now t.d.now p.nodes.now p.children.now (layer_of p.floor) (listed_nodes rs))) (part_all s.book.now s.tracker.used)
+    ∙ passed_by s.tracker s.book.now s.queue.now p.nodes.now p.children.now (layer_of p.floor) t.g.now t.d.now (sym (c.in_ok-lent.ensures {u = tt}).number) (stats_reading_of (sequence_len s.tracker) (walk t.g.now t.d.now p.nodes.now p.children.now (layer_of p.floor) (nodes_of s.tracker s.book.now)))

@@ -1,33 +1,23 @@
--- `listed_kl` meets its contract: the node that is found has the rank asked for, and one that is not found is not listed.
-use Rattle.std.proofs.Common.{ℕ, sym, ap, ◌∙◌, subst, arith}
+-- `listed_kl` meets its contract: the node that is found has the rank asked for.
+use Rattle.std.proofs.Common.{◌≡◌, ℕ, ap, ◌∙◌, rules}
+use Rattle.std.specs.Prelude.{Ok, Err, MatchResult}
+use Rattle.std.proofs.lemmas.Result.{MatchResult-weaker, err_from_is_err_and}
+use Rattle.priors.specs.Address.{address_of}
 use Rattle.priors.specs.Priors.{prior_of}
-use Rattle.divergence.specs.declared.evidence.Listed.{Listed}
-use Rattle.divergence.specs.Parts.{evidence_at}
+use Rattle.priors.specs.declared.refusals.Refusal.{Refusal}
+use Rattle.priors.specs.declared.refusals.Refusal.TheVariants.{AtNode}
+use Rattle.divergence.specs.Listing.{listed_node}
 use Rattle.divergence.specs.Divergence.{node_divergence}
-use Rattle.divergence.specs.Listing.{IsListed}
 use Rattle.divergence.specs.Readings.{divergence_reading, of_listed}
+use Rattle.divergence.proofs.WalkLaws.{told_reading}
 use Rattle.divergence.proofs.kl_readings.listed_kl.Goals as goal
 
-pub node_divergence-requires : goal.node_divergence-requires
-node_divergence-requires c =
-    let at = c.in-Entries.ensures in
-    record { i_lt_to = at.place_first; to_le_max_entries = omega (arith, at.place_fits, c.requires.used_le_max_entries); to_in_bounds = omega (arith, at.place_fits, c.requires.used_in_bounds); layer_value = c.requires.layer_value; d_value = c.requires.d_value }
-
-pub returns-in-Entries : goal.returns-in-Entries
-returns-in-Entries c =
-    let at = c.in-Entries.ensures in
-    let g = c.args.g.now in
-    let d = c.args.d.now in
-    let nodes = c.args.nodes.now in
-    let children = c.args.children.now in
-    let layer = c.args.layer in
-    let rank = c.args.rank in
-    let e = evidence_at c.args.book.now c.in-Entries.i c.in-Entries.to in
-    c.answer.ensures
-    ∙ ap (divergence_reading rank) (c.node_divergence.ensures ∙ ap (λ (k : ℕ). node_divergence g d (prior_of nodes children layer k) e) at.node_is)
-    ∙ sym (ap (of_listed g d nodes children layer rank) at.evidence_is)
-
-pub returns-in-Unlisted : goal.returns-in-Unlisted
-returns-in-Unlisted c =
-    let none_is = subst (λ (l : Listed). IsListed c.args.book.now c.args.used c.args.rank l) c.in-Unlisted.is c.find_listed.ensures in
-    sym (ap (of_listed c.args.g.now c.args.d.now c.args.nodes.now c.args.children.now c.args.layer c.args.rank) none_is)
+pub returns-in-Some : goal.returns-in-Some
+returns-in-Some c =
+    let t = c.args.tables.now in
+    let p = c.args.priors.now in
+    let n = listed_node c.in-Some.node in
+    let told : MatchResult c.divergence.result (λ x. c.map_err.result ≡ Ok x) (λ reason. (q : Refusal) × (c.map_err.result ≡ Err q) × (q ≡ AtNode reason (address_of c.args.rank))) = MatchResult-weaker c.divergence.result c.map_err.ensures.cases (λ x h. h) (λ e h. let q = err_from_is_err_and c.map_err.result h in (q.0, q.1, search (rules, q.2))) in
+    told_reading c.args.rank c.divergence.result c.map_err.result told
+    ∙ ap (divergence_reading c.args.rank) (c.divergence.ensures ∙ ap (λ (k : ℕ). node_divergence t.g.now t.d.now (prior_of p.nodes.now p.children.now p.layer k) n.evidence) c.in-Some.ensures.address)
+    ∙ ap (of_listed t.g.now t.d.now p.nodes.now p.children.now p.layer c.args.rank) c.in-Some.ensures.evidence

@@ -1,55 +1,33 @@
 -- `posterior_kl_divergence` meets its contract: a check's refusal is the reading's, and where all pass the node's divergence is.
-use Rattle.std.proofs.Common.{◌≡◌, ℕ, ℤ, sym, ap, ◌∙◌, w32}
-use mir.ValLaws.{to_z-of_z}
+use Rattle.std.proofs.Common.{sym, ◌∙◌}
+use Rattle.std.proofs.lemmas.Result.{err_from_is_err_and}
 use Rattle.priors.specs.Address.{rank_of}
-use Rattle.priors.specs.Refusals.{checked_number}
-use Rattle.divergence.specs.Nodes.{evidence_of}
-use Rattle.divergence.specs.Readings.{nodes_of, of_listed, kl_reading, form_refusal}
-use Rattle.divergence.proofs.CheckLaws.{refused_by, passed_by, tables_pass, priors_pass, used_fits, used_le, entries_formed}
 use Rattle.priors.specs.Priors.{layer_of}
+use Rattle.entries.specs.Entries.{rows}
+use Rattle.divergence.specs.Nodes.{listed_nodes, evidence_of}
+use Rattle.divergence.specs.Readings.{nodes_of, of_listed, kl_reading}
+use Rattle.divergence.proofs.CheckLaws.{refused_by, passed_by}
 use Rattle.divergence.proofs.kl_readings.posterior_kl_divergence.Goals as goal
 
-pub listed_kl-requires : goal.listed_kl-requires
-listed_kl-requires c =
-    let t = c.args.t in
-    let book = c.args.book.now in
-    let queue = c.args.queue.now in
-    let nodes = c.args.nodes.now in
-    let children = c.args.children.now in
-    let layer = c.layer_of-layer.result in
-    let g = c.args.g.now in
-    let d = c.args.d.now in
-    let passed = sym c.tested.ensures ∙ ap checked_number c.in-Passed.is in record { used_le_max_entries = used_le t book queue nodes children layer g d passed; used_in_bounds = used_fits t book queue nodes children layer g d passed; used_value = entries_formed t book queue nodes children layer g d passed; layer_value = priors_pass t book queue nodes children layer g d passed; d_value = tables_pass t book queue nodes children layer g d passed }
-
-pub returns-in-Refused : goal.returns-in-Refused
+pub returns-in_err-lent : goal.returns-in_err-lent
 unfolding kl_reading
-returns-in-Refused c =
-    let t = c.args.t in
-    let book = c.args.book.now in
-    let nodes = c.args.nodes.now in
-    let children = c.args.children.now in
-    let layer = c.layer_of-layer.result in
-    let g = c.args.g.now in
-    let d = c.args.d.now in
-    let rank = rank_of c.args.scale c.args.point in
-    let below : layer ≡ layer_of c.args.floor = c.layer_of-layer.ensures ∙ ap layer_of (to_z-of_z w32 c.args.floor c.ranges.floor) in
-    refused_by t book c.args.queue.now nodes children layer g d c.in-Refused.r (of_listed g d nodes children layer rank (evidence_of rank (nodes_of t book))) (sym (ap checked_number c.in-Refused.is) ∙ c.tested.ensures)
-    ∙ ap (λ (l : ℕ). kl_reading (form_refusal t book c.args.queue.now) g d nodes children l (nodes_of t book) rank) below
+returns-in_err-lent c =
+    let s = c.args.seen.now in
+    let t = c.args.tables.now in
+    let p = c.args.priors.now in
+    let rank = rank_of c.args.node.scale c.args.node.point in
+    let out = err_from_is_err_and c.from_residual.result c.from_residual.ensures.1 in
+    rw (out.1, out.2)
+    (refused_by s.tracker s.book.now s.queue.now p.nodes.now p.children.now (layer_of p.floor) t.g.now t.d.now c.in_err-lent.field-0.0 (of_listed t.g.now t.d.now p.nodes.now p.children.now (layer_of p.floor) rank (evidence_of rank (nodes_of s.tracker s.book.now))) (c.in_err-lent.ensures {u = tt}).number)
 
-pub returns-in-Passed : goal.returns-in-Passed
+pub returns : goal.returns
 unfolding kl_reading
-returns-in-Passed c =
-    let t = c.args.t in
-    let book = c.args.book.now in
-    let nodes = c.args.nodes.now in
-    let children = c.args.children.now in
-    let layer = c.layer_of-layer.result in
-    let g = c.args.g.now in
-    let d = c.args.d.now in
-    let rank = rank_of c.args.scale c.args.point in
-    let passed = sym c.tested.ensures ∙ ap checked_number c.in-Passed.is in
-    let below : layer ≡ layer_of c.args.floor = c.layer_of-layer.ensures ∙ ap layer_of (to_z-of_z w32 c.args.floor c.ranges.floor) in
+returns c =
+    let s = c.args.seen.now in
+    let t = c.args.tables.now in
+    let p = c.args.priors.now in
+    let rank = rank_of c.args.node.scale c.args.node.point in
+    let lent = (c.in_ok-lent.ensures {u = tt}).lent in
     c.listed_kl.ensures
-    ∙ ap (λ (k : ℕ). of_listed g d nodes children layer k (evidence_of k (nodes_of t book))) (c.rank_of.ensures ∙ ap (λ (z : ℤ). rank_of z c.args.point) (to_z-of_z w32 c.args.scale c.ranges.scale))
-    ∙ passed_by t book c.args.queue.now nodes children layer g d passed (of_listed g d nodes children layer rank (evidence_of rank (nodes_of t book)))
-    ∙ ap (λ (l : ℕ). kl_reading (form_refusal t book c.args.queue.now) g d nodes children l (nodes_of t book) rank) below
+    ∙ (λ j. of_listed (lent.g_is j) (lent.d_is j) (lent.nodes_are j) (lent.children_are j) (lent.layer_is j) (c.rank.ensures j) (evidence_of (c.rank.ensures j) (listed_nodes (rows (lent.book_is j) (lent.used_is j)))))
+    ∙ passed_by s.tracker s.book.now s.queue.now p.nodes.now p.children.now (layer_of p.floor) t.g.now t.d.now (sym (c.in_ok-lent.ensures {u = tt}).number) (of_listed t.g.now t.d.now p.nodes.now p.children.now (layer_of p.floor) rank (evidence_of rank (nodes_of s.tracker s.book.now)))

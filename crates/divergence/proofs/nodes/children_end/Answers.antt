@@ -1,21 +1,19 @@
--- `children_end` meets its contract: the children passed and those still leading are the children that lead from the start.
-use Rattle.std.proofs.Common.{sym, refl, ◌∙◌, arith, rules}
+-- `children_end` meets its contract: no ending stands from i up to the place at hand.
+use Rattle.std.proofs.Common.{sym, ◌∙◌, arith}
 use Rattle.divergence.proofs.NodeLaws.{leading_ending, leading_child, leading_none}
 use Rattle.divergence.proofs.nodes.children_end.Goals as goal
 
-pub loop-at-init : goal.loop-at-init
-loop-at-init c = (search rules, refl)
-
-pub returns-then-read_u32-eq0 : goal.returns-then-read_u32-eq0
-returns-then-read_u32-eq0 c =
-    omega (arith, leading_ending c.args.book.now c.shared_slice_known-1.given c.loop-at.at c.args.used c.loop-at-test.true (sym c.read_u32.ensures ∙ c.if-read_u32-eq0.true))
+pub returns-then-is_ending : goal.returns-then-is_ending
+returns-then-is_ending c =
+    let l = c.args.listing.now in
+    omega (arith, leading_ending l.bytes.now c.loop-at.at l.used c.loop-at-test.true (sym c.is_ending.ensures ∙ c.if-is_ending.true), c.loop-at.invariant)
 
 pub loop-at-preserved : goal.loop-at-preserved
-loop-at-preserved c = (
-  search rules,
-  omega (arith, leading_child c.args.book.now c.shared_slice_known-1.given c.loop-at.at c.args.used c.loop-at-test.true (λ z. c.if-read_u32-eq0.false (c.read_u32.ensures ∙ z))),
-)
+loop-at-preserved c =
+    let l = c.args.listing.now in
+    omega (arith, leading_child l.bytes.now c.loop-at.at l.used c.loop-at-test.true (sym c.is_ending.ensures ∙ c.if-is_ending.false), c.loop-at.invariant)
 
 pub returns : goal.returns
 returns c =
-    omega (arith, leading_none c.args.book.now c.loop-at.at c.args.used c.loop-at-test.false)
+    let l = c.args.listing.now in
+    omega (arith, leading_none l.bytes.now c.loop-at.at l.used c.loop-at-test.false, c.loop-at.invariant, c.loop-at.auto)

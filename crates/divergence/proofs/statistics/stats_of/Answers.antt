@@ -1,86 +1,71 @@
--- `stats_of` meets its contract: the tally so far with the walk over the nodes still to come gives the reading over all nodes.
-use Rattle.std.proofs.Common.{◌≡◌, ℕ, List, sym, ap, ◌∙◌, ap₂, arith}
-use Rattle.divergence.specs.declared.divergences.NodeDivergence.{NodeDivergence}
+-- `stats_of` meets its contract: the statistics so far with the walk over the nodes still to come give the reading over all nodes.
+use Rattle.std.proofs.Common.{◌≡◌, length, List, sym, ap, ◌∙◌, ap₂, arith}
+use Rattle.std.specs.Prelude.{Ok}
+use Rattle.priors.specs.declared.refusals.Refusal.{Refusal}
+use Rattle.priors.specs.Refusals.{number_of, named_node}
 use Rattle.divergence.specs.declared.statistics.KLDivergenceStats.{KLDivergenceStats}
-use Rattle.divergence.specs.declared.statistics.Tallied.{Tallied}
 use Rattle.divergence.specs.Nodes.{Node}
-use Rattle.divergence.specs.Parts.{node_at}
-use Rattle.divergence.specs.Statistics.{walk}
-use Rattle.divergence.specs.Tallies.{tally_of}
-use Rattle.divergence.proofs.WalkLaws.{first, next, divergence_at, walk_from, walk_end, tally_reading, tallied_reading, tally_next, tally_start, tally_end, tally_grows}
+use Rattle.divergence.specs.Listing.{listed_node, nodes_left}
+use Rattle.divergence.specs.Statistics.{walk, walk_over, noted}
+use Rattle.divergence.specs.Readings.{refused}
+use Rattle.divergence.proofs.WalkLaws.{nodes_number, walk_next, walk_end, tally_reading, tally_start, tally_end, tally_noted, tally_skipped, tally_stopped, noted_le}
 use Rattle.divergence.proofs.statistics.stats_of.Goals as goal
 
-pub loop-i-init : goal.loop-i-init
-loop-i-init c =
-    let g = c.args.g.now in
-    let d = c.args.d.now in
-    let nodes = c.args.nodes.now in
-    let children = c.args.children.now in
-    let layer = c.args.layer in
-    let book = c.args.book.now in
-    let at = first book c.children_end-i.result c.args.used c.children_end-i.ensures in (
-      at.within,
-      at.ends,
-      ap₂ (λ (s : KLDivergenceStats) (ns : List Node). tally_reading (record { stats = s; skipped = 0 }) (walk g d nodes children layer ns)) c.no_stats.ensures (sym at.nodes_are) ∙ tally_start c.args.sequence_len (walk_from g d nodes children layer book 0 c.args.used),
-      omega (arith, ap (λ (s : KLDivergenceStats). s.nz_count) c.no_stats.ensures),
-      omega arith,
-    )
+pub loop-node-init : goal.loop-node-init
+loop-node-init c =
+    let t = c.args.tables.now in
+    let p = c.args.priors.now in
+    let l = c.args.listing.now in
+    record {
+      reading_is = ap₂ (λ (s : KLDivergenceStats) (ns : List Node). tally_reading s 0 (walk t.g.now t.d.now p.nodes.now p.children.now p.layer ns)) c.new-stats.ensures c.of-nodes.ensures ∙ tally_start c.args.sequence_len (walk_over t p l);
+      counted_few = omega (arith, ap (λ (s : KLDivergenceStats). s.nz_count) c.new-stats.ensures, ap (λ ns. length {A = Node} ns) c.of-nodes.ensures, nodes_number l.bytes.now 0 l.used, l.few);
+      skipped_few = omega (arith, ap (λ ns. length {A = Node} ns) c.of-nodes.ensures, nodes_number l.bytes.now 0 l.used, l.few);
+    }
 
-pub children_end-to-requires : goal.children_end-to-requires
-children_end-to-requires c = record { i_le_used = omega arith; used_in_bounds = omega arith }
+pub loop-node-preserved-in-Ok-Some : goal.loop-node-preserved-in-Ok-Some
+loop-node-preserved-in-Ok-Some c =
+    let t = c.args.tables.now in
+    let p = c.args.priors.now in
+    let n = listed_node c.in-Some.node in
+    let rest = nodes_left c.next.new.self in
+    let found = sym c.divergence.ensures ∙ c.in-Ok-Some.is ∙ ap Ok c.in-Ok-Some.field-0-is in
+    let stats = c.loop-node.stats in
+    let is : c.noted-stats.result ≡ noted stats c.in-Ok-Some.x = cc (c.noted-stats.ensures, c.in-Ok-Some.x-is) in
+    record {
+      reading_is = ap (λ (s : KLDivergenceStats). tally_reading s c.loop-node.skipped (walk t.g.now t.d.now p.nodes.now p.children.now p.layer rest)) is
+          ∙ sym (ap (tally_reading stats c.loop-node.skipped) (walk_next t.g.now t.d.now p.nodes.now p.children.now p.layer n rest (nodes_left c.loop-node.nodes) _ c.in-Some.ensures found) ∙ tally_noted stats c.loop-node.skipped n.address c.in-Ok-Some.x (walk t.g.now t.d.now p.nodes.now p.children.now p.layer rest))
+          ∙ c.loop-node.invariant.reading_is;
+      counted_few = omega (arith, ap (λ (s : KLDivergenceStats). s.nz_count) is, noted_le stats c.in-Ok-Some.x, ap (λ ns. length {A = Node} ns) c.in-Some.ensures, c.loop-node.invariant.counted_few);
+      skipped_few = omega (arith, ap (λ ns. length {A = Node} ns) c.in-Some.ensures, c.loop-node.invariant.skipped_few);
+    }
 
-pub node_divergence-x-requires : goal.node_divergence-x-requires
-node_divergence-x-requires c =
-    let to = next c.args.book.now c.shared_slice_known-1.given c.loop-i.i c.children_end-to.result c.args.used c.loop-i-test.true c.loop-i.invariant.1 c.children_end-to.ensures in
-    record { i_lt_to = to.later; to_le_max_entries = omega (arith, to.within); to_in_bounds = omega (arith, to.within); layer_value = c.requires.layer_value; d_value = c.requires.d_value }
+pub loop-node-preserved : goal.loop-node-preserved
+loop-node-preserved c =
+    let t = c.args.tables.now in
+    let p = c.args.priors.now in
+    let n = listed_node c.in-Some.node in
+    let rest = nodes_left c.next.new.self in
+    let found = sym c.divergence.ensures ∙ c.in-Ok-None.is ∙ ap Ok c.in-Ok-None.field-0-is in
+    let stats = c.loop-node.stats in
+    record {
+      reading_is = sym (ap (tally_reading stats c.loop-node.skipped) (walk_next t.g.now t.d.now p.nodes.now p.children.now p.layer n rest (nodes_left c.loop-node.nodes) _ c.in-Some.ensures found) ∙ tally_skipped stats c.loop-node.skipped n.address (walk t.g.now t.d.now p.nodes.now p.children.now p.layer rest)) ∙ c.loop-node.invariant.reading_is;
+      counted_few = omega (arith, ap (λ ns. length {A = Node} ns) c.in-Some.ensures, c.loop-node.invariant.counted_few);
+      skipped_few = omega (arith, ap (λ ns. length {A = Node} ns) c.in-Some.ensures, c.loop-node.invariant.skipped_few);
+    }
 
-pub one_more-requires : goal.one_more-requires
-one_more-requires c = record { nz_count_bound = omega arith; skipped_bound = omega arith }
-
-pub returns-in-Stopped : goal.returns-in-Stopped
-returns-in-Stopped c =
-    let g = c.args.g.now in
-    let d = c.args.d.now in
-    let nodes = c.args.nodes.now in
-    let children = c.args.children.now in
-    let layer = c.args.layer in
-    let book = c.args.book.now in
-    let i = c.loop-i.i in
-    let to = next book c.shared_slice_known-1.given i c.children_end-to.result c.args.used c.loop-i-test.true c.loop-i.invariant.1 c.children_end-to.ensures in
-    let is : c.one_more.result ≡ tally_of c.loop-i.tally (node_at book i) (divergence_at g d nodes children layer book i c.children_end-to.result) = c.one_more.ensures ∙ ap₂ (λ (k : ℕ) (x : NodeDivergence). tally_of c.loop-i.tally k x) c.rank_at.ensures c.node_divergence-x.ensures in
-    sym (sym c.loop-i.invariant.2 ∙ tally_next g d nodes children layer book c.loop-i.tally i c.children_end-to.result c.args.used to ∙ ap (λ (t : Tallied). tallied_reading t (walk_from g d nodes children layer book c.children_end-to.result c.args.used)) (sym is ∙ c.in-Stopped.is))
-
-pub loop-i-smaller : goal.loop-i-smaller
-loop-i-smaller c =
-    let to = next c.args.book.now c.shared_slice_known-1.given c.loop-i.i c.children_end-to.result c.args.used c.loop-i-test.true c.loop-i.invariant.1 c.children_end-to.ensures in
-    omega (arith, to.later, to.within)
-
-pub loop-i-preserved : goal.loop-i-preserved
-loop-i-preserved c =
-    let g = c.args.g.now in
-    let d = c.args.d.now in
-    let nodes = c.args.nodes.now in
-    let children = c.args.children.now in
-    let layer = c.args.layer in
-    let book = c.args.book.now in
-    let i = c.loop-i.i in
-    let to = next book c.shared_slice_known-1.given i c.children_end-to.result c.args.used c.loop-i-test.true c.loop-i.invariant.1 c.children_end-to.ensures in
-    let is : c.one_more.result ≡ tally_of c.loop-i.tally (node_at book i) (divergence_at g d nodes children layer book i c.children_end-to.result) = c.one_more.ensures ∙ ap₂ (λ (k : ℕ) (x : NodeDivergence). tally_of c.loop-i.tally k x) c.rank_at.ensures c.node_divergence-x.ensures in
-    let on = sym is ∙ c.in-On.is in
-    let grown = tally_grows c.loop-i.tally (node_at book i) (divergence_at g d nodes children layer book i c.children_end-to.result) _ on in (
-      to.within,
-      to.ends,
-      sym (ap (λ (t : Tallied). tallied_reading t (walk_from g d nodes children layer book c.children_end-to.result c.args.used)) on) ∙ sym (tally_next g d nodes children layer book c.loop-i.tally i c.children_end-to.result c.args.used to) ∙ c.loop-i.invariant.2,
-      omega (arith, grown.counted_le, to.later),
-      omega (arith, grown.skipped_le, to.later),
-    )
+pub returns-in-Err : goal.returns-in-Err
+returns-in-Err c =
+    let t = c.args.tables.now in
+    let p = c.args.priors.now in
+    let n = listed_node c.in-Some.node in
+    let rest = nodes_left c.next.new.self in
+    let found = sym c.divergence.ensures ∙ c.in-Err.is in
+    let stats = c.loop-node.stats in
+    ap (λ (r : Refusal). refused (number_of r) (named_node r)) c.refusal.ensures
+    ∙ sym (sym c.loop-node.invariant.reading_is ∙ ap (tally_reading stats c.loop-node.skipped) (walk_next t.g.now t.d.now p.nodes.now p.children.now p.layer n rest (nodes_left c.loop-node.nodes) _ c.in-Some.ensures found) ∙ tally_stopped stats c.loop-node.skipped n.address c.in-Err.reason (walk t.g.now t.d.now p.nodes.now p.children.now p.layer rest))
 
 pub returns : goal.returns
 returns c =
-    let g = c.args.g.now in
-    let d = c.args.d.now in
-    let nodes = c.args.nodes.now in
-    let children = c.args.children.now in
-    let layer = c.args.layer in
-    let book = c.args.book.now in
-    sym (sym c.loop-i.invariant.2 ∙ ap (tally_reading c.loop-i.tally) (walk_end g d nodes children layer book c.loop-i.i c.args.used c.loop-i-test.false) ∙ tally_end c.loop-i.tally)
+    let t = c.args.tables.now in
+    let p = c.args.priors.now in
+    sym (sym c.loop-node.invariant.reading_is ∙ ap (λ ns. tally_reading c.loop-node.stats c.loop-node.skipped (walk t.g.now t.d.now p.nodes.now p.children.now p.layer ns)) c.in_default.ensures ∙ ap (tally_reading c.loop-node.stats c.loop-node.skipped) (walk_end t.g.now t.d.now p.nodes.now p.children.now p.layer) ∙ tally_end c.loop-node.stats c.loop-node.skipped)

@@ -1,17 +1,18 @@
--- `stats_of` meets its contract: the tally so far with the walk over the nodes still to come gives the reading over all nodes.
-use Rattle.std.proofs.Common.{◌≡◌, ◌-◌, ◌≤◌}
-use Rattle.divergence.specs.Parts.{part, leading}
+-- `stats_of` meets its contract: the statistics so far with the walk over the nodes still to come give the reading over all nodes.
+use Rattle.std.proofs.Common.{◌≡◌, ◌+◌, ◌≤◌, length}
+use Rattle.entries.specs.Limits.{max_entries}
+use Rattle.divergence.specs.Listing.{nodes_left}
+use Rattle.divergence.specs.Statistics.{walk, walk_over}
 use Rattle.divergence.specs.Readings.{stats_reading_of}
-use Rattle.divergence.proofs.WalkLaws.{walk_from, tally_reading}
+use Rattle.divergence.proofs.WalkLaws.{tally_reading}
 use Rattle.divergence.proofs.statistics.stats_of.Given as goal
 
-abbrev pub invariant-loop-i : goal.invariant-loop-i
-invariant-loop-i l =
-    (l.i ≤ l.used)
-    × (leading (part l.book l.i l.used) ≡ 0)
-    × (tally_reading l.tally (walk_from l.g l.d l.nodes l.children l.layer l.book l.i l.used) ≡ stats_reading_of l.sequence_len (walk_from l.g l.d l.nodes l.children l.layer l.book 0 l.used))
-    × (l.tally.stats.nz_count ≤ l.i)
-    × (l.tally.skipped ≤ l.i)
+abbrev pub invariant-loop-node : goal.invariant-loop-node
+invariant-loop-node l = record {
+  reading_is : tally_reading l.stats l.skipped (walk l.tables.g.now l.tables.d.now l.priors.nodes.now l.priors.children.now l.priors.layer (nodes_left l.nodes)) ≡ stats_reading_of l.sequence_len (walk_over l.tables l.priors l.listing);
+  counted_few : l.stats.nz_count + length (nodes_left l.nodes) ≤ max_entries;
+  skipped_few : l.skipped + length (nodes_left l.nodes) ≤ max_entries;
+}
 
-abbrev pub decreases-loop-i : goal.decreases-loop-i
-decreases-loop-i l = l.used - l.i
+abbrev pub decreases-loop-node : goal.decreases-loop-node
+decreases-loop-node l = length (nodes_left l.nodes)

@@ -1,34 +1,62 @@
--- Each return is a case of the reading: form broken, or the vector of the evidence. Assumes nothing.
-use Rattle.std.proofs.Common.{◌≡◌, Bool, true, cond, ℤ, sym, ap, ◌∙◌, w32}
-use mir.ValLaws.{to_z-of_z}
+-- `evidence_prob_vector` meets its contract: each return is a case of the reading.
+use Rattle.std.proofs.Common.{◌≡◌, ◌<◌, sym, ap, ◌∙◌, arith}
+use Rattle.std.specs.Prelude.{None, Some}
+use Rattle.std.proofs.lemmas.Result.{err_from_is_err_and}
 use Rattle.priors.specs.Address.{rank_of}
+use Rattle.priors.specs.Priors.{Counts, total}
+use Rattle.entries.specs.Entries.{rows}
 use Rattle.book.specs.Form.{in_form}
-use Rattle.divergence.specs.Asked.{lent_output}
-use Rattle.divergence.specs.Readings.{form_refusal, nodes_of, room}
-use Rattle.divergence.proofs.VectorLaws.{form_usable, evidence_form, evidence_formed}
+use Rattle.divergence.specs.Nodes.{listed_nodes, evidence_of}
+use Rattle.divergence.specs.Listing.{listed_node, evidence_in}
+use Rattle.divergence.specs.Probability.{evidence_prob_vector}
+use Rattle.divergence.specs.Merging.{counts_left}
+use Rattle.divergence.specs.Readings.{form_refusal, nodes_of, vector_reading}
+use Rattle.divergence.specs.Asked.{lent_output, room_in, vector_telling}
+use Rattle.divergence.proofs.CheckLaws.{form_unnamed}
+use Rattle.divergence.proofs.VectorLaws.{evidence_form, evidence_formed, total_none, total_some, unlisted_none}
 use Rattle.divergence.proofs.vectors.evidence_prob_vector.Goals as goal
 
-pub returns-then-not-in_form : goal.returns-then-not-in_form
-returns-then-not-in_form c =
-    let form = form_refusal c.args.t c.args.book.now c.args.queue.now in
-    let listed = nodes_of c.args.t c.args.book.now in
-    let rank = rank_of c.args.scale c.args.point in
-    let have = room c.args.addresses.now c.args.figures.now in
-    let broken : form ≡ 9 = ap (λ (b : Bool). cond b 0 9) (sym c.in_form.ensures ∙ c.if-not-in_form.true) in
-    rw (evidence_form form listed rank have broken)
+pub returns-in_err-listing-clause-told : goal.returns-in_err-listing-clause-told
+returns-in_err-listing-clause-told c =
+    let s = c.args.seen.now in
+    let o = lent_output c.args.output.now.addresses.now c.args.output.now.figures.now in
+    let out = err_from_is_err_and c.from_residual.result c.from_residual.ensures.1 in
+    rw (out.1, out.2)
+    (sym (ap (vector_telling o) (evidence_form (form_refusal s.tracker s.book.now s.queue.now) (nodes_of s.tracker s.book.now) (rank_of c.args.node.scale c.args.node.point) (room_in o) c.in_err-listing.field-0.0 (c.in_err-listing.ensures {u = tt}).number (form_unnamed (in_form s.tracker s.book.now s.queue.now)))))
 
-pub evidence_vector-requires : goal.evidence_vector-requires
-evidence_vector-requires c =
-    form_usable c.args.t c.args.book.now c.args.queue.now (sym c.in_form.ensures ∙ c.if-not-in_form.false)
+pub returns-in-Some-clause-told : goal.returns-in-Some-clause-told
+returns-in-Some-clause-told c =
+    let s = c.args.seen.now in
+    let o = lent_output c.args.output.now.addresses.now c.args.output.now.figures.now in
+    let rank = rank_of c.args.node.scale c.args.node.point in
+    let listed = nodes_of s.tracker s.book.now in
+    let lent = (c.in_ok-listing.ensures {u = tt}).lent in
+    let e = (listed_node c.in-Some.evidence).evidence in
+    let known : evidence_of rank listed ≡ Some e = sym (c.in-Some.ensures.evidence ∙ (λ j. evidence_of (c.rank.ensures j) (listed_nodes (rows (lent.0 j) (lent.1 j))))) in
+    let some : 0 < total e = omega (arith, c.total.ensures, c.if-total-ne0.true) in
+    let counts : counts_left c.from.result c.evidence.result ≡ e = λ j. record { ending = (c.from.ensures ∙ c.ending_count.ensures) j; children = c.evidence.ensures.left j } in
+    c.vector.ensures.told
+    ∙ ap (λ (k : Counts). vector_telling o (vector_reading (room_in o) (Some k))) counts
+    ∙ sym (ap (vector_telling o) (evidence_formed (form_refusal s.tracker s.book.now s.queue.now) listed rank (room_in o) (sym (c.in_ok-listing.ensures {u = tt}).number) ∙ ap (vector_reading (room_in o)) (ap evidence_prob_vector known ∙ total_some e some)))
 
-pub returns : goal.returns
-returns c =
-    let form = form_refusal c.args.t c.args.book.now c.args.queue.now in
-    let listed = nodes_of c.args.t c.args.book.now in
-    let rank = rank_of c.args.scale c.args.point in
-    let have = room c.args.addresses.now c.args.figures.now in
-    let good : in_form c.args.t c.args.book.now c.args.queue.now ≡ true = sym c.in_form.ensures ∙ c.if-not-in_form.false in
-    let formed : form ≡ 0 = ap (λ (b : Bool). cond b 0 9) good in
-    let ranked : c.rank_of.result ≡ rank = c.rank_of.ensures ∙ ap (λ (z : ℤ). rank_of z c.args.point) (to_z-of_z w32 c.args.scale c.ranges.scale) in
-    let is = rw ranked at c.evidence_vector.ensures in
-    rw (evidence_formed form listed rank have formed) (λ i. record { answer = is.result_is i; output = lent_output (is.addresses_are i) (is.figures_are i) })
+pub returns-in_default-clause-told : goal.returns-in_default-clause-told
+returns-in_default-clause-told c =
+    let s = c.args.seen.now in
+    let o = lent_output c.args.output.now.addresses.now c.args.output.now.figures.now in
+    let rank = rank_of c.args.node.scale c.args.node.point in
+    let listed = nodes_of s.tracker s.book.now in
+    let lent = (c.in_ok-listing.ensures {u = tt}).lent in
+    let e = (listed_node c.in-Some.evidence).evidence in
+    let known : evidence_of rank listed ≡ Some e = sym (c.in-Some.ensures.evidence ∙ (λ j. evidence_of (c.rank.ensures j) (listed_nodes (rows (lent.0 j) (lent.1 j))))) in
+    let none : total e ≡ 0 = omega (arith, c.total.ensures, c.if-total-ne0.false) in
+    sym (ap (vector_telling o) (evidence_formed (form_refusal s.tracker s.book.now s.queue.now) listed rank (room_in o) (sym (c.in_ok-listing.ensures {u = tt}).number) ∙ ap (vector_reading (room_in o)) (ap evidence_prob_vector known ∙ total_none e none)))
+
+pub returns-in_default-2-clause-told : goal.returns-in_default-2-clause-told
+returns-in_default-2-clause-told c =
+    let s = c.args.seen.now in
+    let o = lent_output c.args.output.now.addresses.now c.args.output.now.figures.now in
+    let rank = rank_of c.args.node.scale c.args.node.point in
+    let listed = nodes_of s.tracker s.book.now in
+    let lent = (c.in_ok-listing.ensures {u = tt}).lent in
+    let missing : evidence_of rank listed ≡ None = sym (ap evidence_in (sym c.in_default.is) ∙ c.find.ensures.evidence ∙ (λ j. evidence_of (c.rank.ensures j) (listed_nodes (rows (lent.0 j) (lent.1 j))))) in
+    sym (ap (vector_telling o) (evidence_formed (form_refusal s.tracker s.book.now s.queue.now) listed rank (room_in o) (sym (c.in_ok-listing.ensures {u = tt}).number) ∙ ap (vector_reading (room_in o)) (ap evidence_prob_vector missing ∙ unlisted_none)))

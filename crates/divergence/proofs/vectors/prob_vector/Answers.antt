@@ -1,101 +1,63 @@
--- Each return is a case of the reading: priors refused, form broken, no prior, or the vector of prior and evidence. Assumes nothing.
-use Rattle.std.proofs.Common.{◌≡◌, ℕ, Bool, true, cond, ℤ, sym, ap, ◌∙◌, w32}
-use mathlib.Core.Option.{none, some}
-use mir.ValLaws.{to_z-of_z}
+-- `prob_vector` meets its contract: each return is a case of the reading, priors refused, form broken, no prior, or the vector of prior and evidence.
+use Rattle.std.proofs.Common.{◌≡◌, sym, ap, ◌∙◌}
+use Rattle.std.specs.Prelude.{Option, None, Some}
+use Rattle.std.proofs.lemmas.Result.{err_from_is_err_and}
 use Rattle.priors.specs.Address.{rank_of}
-use Rattle.priors.specs.Refusals.{number_of, checked_number}
-use Rattle.priors.specs.Lookups.{node_found}
-use Rattle.priors.specs.Priors.{records, find_record, priors_refusal, layer_of}
-use Rattle.priors.proofs.PriorLaws.{accepted, found_fits}
+use Rattle.priors.specs.Priors.{Counts, layer_of, prior_of, prior_of_node}
+use Rattle.entries.specs.Entries.{rows}
 use Rattle.book.specs.Form.{in_form}
-use Rattle.divergence.specs.Asked.{lent_output}
-use Rattle.divergence.specs.Readings.{form_refusal, nodes_of, room}
-use Rattle.divergence.proofs.VectorLaws.{form_usable, prob_refused, prob_form, prob_none, prob_some}
+use Rattle.divergence.specs.Nodes.{listed_nodes, evidence_of}
+use Rattle.divergence.specs.Listing.{evidence_in}
+use Rattle.divergence.specs.Probability.{posterior}
+use Rattle.divergence.specs.Readings.{form_refusal, nodes_of, vector_reading}
+use Rattle.divergence.specs.Asked.{lent_output, room_in, vector_telling}
+use Rattle.divergence.proofs.CheckLaws.{form_unnamed}
+use Rattle.divergence.proofs.FitLaws.{prior_none, prior_found}
+use Rattle.divergence.proofs.VectorLaws.{prob_refused, prob_form, prob_none, prob_some}
 use Rattle.divergence.proofs.vectors.prob_vector.Goals as goal
 
-pub returns-then-not-in_form : goal.returns-then-not-in_form
-returns-then-not-in_form c =
-    let nodes = c.args.nodes.now in
-    let children = c.args.children.now in
-    let layer = c.layer_of-layer.result in
-    let form = form_refusal c.args.t c.args.book.now c.args.queue.now in
-    let listed = nodes_of c.args.t c.args.book.now in
-    let rank = rank_of c.args.scale c.args.point in
-    let have = room c.args.addresses.now c.args.figures.now in
-    let passed : priors_refusal nodes children layer ≡ 0 = sym c.check_priors.ensures ∙ ap checked_number c.in-Passed.is in
-    let broken : form ≡ 9 = ap (λ (b : Bool). cond b 0 9) (sym c.in_form.ensures ∙ c.if-not-in_form.true) in
-    let below : layer ≡ layer_of c.args.floor = c.layer_of-layer.ensures ∙ ap layer_of (to_z-of_z w32 c.args.floor c.ranges.floor) in
-    rw (← below) (rw (prob_form form nodes children layer listed rank have passed broken))
+pub returns-in_err-priors-clause-told : goal.returns-in_err-priors-clause-told
+returns-in_err-priors-clause-told c =
+    let s = c.args.seen.now in
+    let p = c.args.priors.now in
+    let o = lent_output c.args.output.now.addresses.now c.args.output.now.figures.now in
+    let out = err_from_is_err_and c.from_residual.result c.from_residual.ensures.1 in
+    rw (out.1, out.2)
+    (sym (ap (vector_telling o) (prob_refused (form_refusal s.tracker s.book.now s.queue.now) p.nodes.now p.children.now (layer_of p.floor) (nodes_of s.tracker s.book.now) (rank_of c.args.node.scale c.args.node.point) (room_in o) c.in_err-priors.field-0.0 (c.in_err-priors.ensures {u = tt}).number)))
 
-pub find_node-requires : goal.find_node-requires
-find_node-requires c =
-    let ok = accepted c.args.nodes.now c.args.children.now c.layer_of-layer.result (sym c.check_priors.ensures ∙ ap checked_number c.in-Passed.is) in
-    record { nodes_value = ok.records_fit.ordered; layer_value = ok.apart }
+pub returns-in_err-listing-clause-told : goal.returns-in_err-listing-clause-told
+returns-in_err-listing-clause-told c =
+    let s = c.args.seen.now in
+    let p = c.args.priors.now in
+    let o = lent_output c.args.output.now.addresses.now c.args.output.now.figures.now in
+    let out = err_from_is_err_and c.from_residual-in_err-listing.result c.from_residual-in_err-listing.ensures.1 in
+    rw (out.1, out.2)
+    (sym (ap (vector_telling o) (prob_form (form_refusal s.tracker s.book.now s.queue.now) p.nodes.now p.children.now (layer_of p.floor) (nodes_of s.tracker s.book.now) (rank_of c.args.node.scale c.args.node.point) (room_in o) (sym (c.in_ok-priors.ensures {u = tt}).number) c.in_err-listing.field-0.0 (c.in_err-listing.ensures {u = tt}).number (form_unnamed (in_form s.tracker s.book.now s.queue.now)))))
 
-pub posterior_vector-requires : goal.posterior_vector-requires
-posterior_vector-requires c =
-    let nodes = c.args.nodes.now in
-    let children = c.args.children.now in
-    let layer = c.layer_of-layer.result in
-    let form = form_refusal c.args.t c.args.book.now c.args.queue.now in
-    let listed = nodes_of c.args.t c.args.book.now in
-    let rank = rank_of c.args.scale c.args.point in
-    let have = room c.args.addresses.now c.args.figures.now in
-    let passed : priors_refusal nodes children layer ≡ 0 = sym c.check_priors.ensures ∙ ap checked_number c.in-Passed.is in
-    let good : in_form c.args.t c.args.book.now c.args.queue.now ≡ true = sym c.in_form.ensures ∙ c.if-not-in_form.false in
-    let formed : form ≡ 0 = ap (λ (b : Bool). cond b 0 9) good in
-    let prior = c.in-Node.prior in
-    let ranked : c.rank_of-rank.result ≡ rank = c.rank_of-rank.ensures ∙ ap (λ (z : ℤ). rank_of z c.args.point) (to_z-of_z w32 c.args.scale c.ranges.scale) in
-    let found : find_record layer rank (records nodes) ≡ some prior = ap (λ (n : ℕ). find_record layer n (records nodes)) (sym ranked) ∙ sym c.find_node.ensures ∙ ap node_found c.in-Node.is in
-    let ok = accepted nodes children layer passed in
-    let chain = found_fits nodes children layer ok rank prior found in
-    record { link_bound = chain.link_fits; children_value = ok.records_fit.rising; link_len_bound = chain.short; usable = form_usable c.args.t c.args.book.now c.args.queue.now good }
+pub returns-in-Some-clause-told : goal.returns-in-Some-clause-told
+returns-in-Some-clause-told c =
+    let s = c.args.seen.now in
+    let p = c.args.priors.now in
+    let o = lent_output c.args.output.now.addresses.now c.args.output.now.figures.now in
+    let rank = rank_of c.args.node.scale c.args.node.point in
+    let listed = nodes_of s.tracker s.book.now in
+    let lent = (c.in_ok-listing.ensures {u = tt}).lent in
+    let given = (c.in_ok-priors.ensures {u = tt}).lent in
+    let prior = c.in-Some.prior in
+    let counts = prior_of_node prior.children.now prior.node in
+    let found : prior_of p.nodes.now p.children.now (layer_of p.floor) rank ≡ Some counts = sym (λ j. prior_of (given.0 j) (given.1 j) (given.2 j) (c.rank-rank.ensures j)) ∙ prior_found c.in_ok-priors.priors c.rank-rank.result prior c.in-Some.ensures.found c.in-Some.ensures.lent in
+    let known : evidence_in c.find.result ≡ evidence_of rank listed = c.find.ensures.evidence ∙ (λ j. evidence_of (c.rank-rank.ensures j) (listed_nodes (rows (lent.0 j) (lent.1 j)))) in
+    c.posterior_vector.ensures.told
+    ∙ ap (λ (e : Option Counts). vector_telling o (vector_reading (room_in o) (Some (posterior counts e)))) known
+    ∙ sym (ap (vector_telling o) (prob_some (form_refusal s.tracker s.book.now s.queue.now) p.nodes.now p.children.now (layer_of p.floor) listed rank (room_in o) (sym (c.in_ok-priors.ensures {u = tt}).number) (sym (c.in_ok-listing.ensures {u = tt}).number) counts found))
 
-pub returns-in-Refused : goal.returns-in-Refused
-returns-in-Refused c =
-    let nodes = c.args.nodes.now in
-    let children = c.args.children.now in
-    let layer = c.layer_of-layer.result in
-    let form = form_refusal c.args.t c.args.book.now c.args.queue.now in
-    let listed = nodes_of c.args.t c.args.book.now in
-    let rank = rank_of c.args.scale c.args.point in
-    let have = room c.args.addresses.now c.args.figures.now in
-    let refused : number_of c.in-Refused.r ≡ priors_refusal nodes children layer = sym (ap checked_number c.in-Refused.is) ∙ c.check_priors.ensures in
-    let below : layer ≡ layer_of c.args.floor = c.layer_of-layer.ensures ∙ ap layer_of (to_z-of_z w32 c.args.floor c.ranges.floor) in
-    rw (← below) (rw (prob_refused form nodes children layer listed rank have c.in-Refused.r refused))
-
-pub returns-in-Node : goal.returns-in-Node
-returns-in-Node c =
-    let nodes = c.args.nodes.now in
-    let children = c.args.children.now in
-    let layer = c.layer_of-layer.result in
-    let form = form_refusal c.args.t c.args.book.now c.args.queue.now in
-    let listed = nodes_of c.args.t c.args.book.now in
-    let rank = rank_of c.args.scale c.args.point in
-    let have = room c.args.addresses.now c.args.figures.now in
-    let passed : priors_refusal nodes children layer ≡ 0 = sym c.check_priors.ensures ∙ ap checked_number c.in-Passed.is in
-    let good : in_form c.args.t c.args.book.now c.args.queue.now ≡ true = sym c.in_form.ensures ∙ c.if-not-in_form.false in
-    let formed : form ≡ 0 = ap (λ (b : Bool). cond b 0 9) good in
-    let prior = c.in-Node.prior in
-    let ranked : c.rank_of-rank.result ≡ rank = c.rank_of-rank.ensures ∙ ap (λ (z : ℤ). rank_of z c.args.point) (to_z-of_z w32 c.args.scale c.ranges.scale) in
-    let found : find_record layer rank (records nodes) ≡ some prior = ap (λ (n : ℕ). find_record layer n (records nodes)) (sym ranked) ∙ sym c.find_node.ensures ∙ ap node_found c.in-Node.is in
-    let is = rw ranked at c.posterior_vector.ensures in
-    let below : layer ≡ layer_of c.args.floor = c.layer_of-layer.ensures ∙ ap layer_of (to_z-of_z w32 c.args.floor c.ranges.floor) in
-    rw (← below) (rw (prob_some form nodes children layer listed rank have passed formed prior found) (λ i. record { answer = is.result_is i; output = lent_output (is.addresses_are i) (is.figures_are i) }))
-
-pub returns-in-NoNode : goal.returns-in-NoNode
-returns-in-NoNode c =
-    let nodes = c.args.nodes.now in
-    let children = c.args.children.now in
-    let layer = c.layer_of-layer.result in
-    let form = form_refusal c.args.t c.args.book.now c.args.queue.now in
-    let listed = nodes_of c.args.t c.args.book.now in
-    let rank = rank_of c.args.scale c.args.point in
-    let have = room c.args.addresses.now c.args.figures.now in
-    let passed : priors_refusal nodes children layer ≡ 0 = sym c.check_priors.ensures ∙ ap checked_number c.in-Passed.is in
-    let good : in_form c.args.t c.args.book.now c.args.queue.now ≡ true = sym c.in_form.ensures ∙ c.if-not-in_form.false in
-    let formed : form ≡ 0 = ap (λ (b : Bool). cond b 0 9) good in
-    let ranked : c.rank_of-rank.result ≡ rank = c.rank_of-rank.ensures ∙ ap (λ (z : ℤ). rank_of z c.args.point) (to_z-of_z w32 c.args.scale c.ranges.scale) in
-    let missing : find_record layer rank (records nodes) ≡ none = ap (λ (n : ℕ). find_record layer n (records nodes)) (sym ranked) ∙ sym c.find_node.ensures ∙ ap node_found c.in-NoNode.is in
-    let below : layer ≡ layer_of c.args.floor = c.layer_of-layer.ensures ∙ ap layer_of (to_z-of_z w32 c.args.floor c.ranges.floor) in
-    rw (← below) (rw (prob_none form nodes children layer listed rank have passed formed missing))
+pub returns-in-None-clause-told : goal.returns-in-None-clause-told
+returns-in-None-clause-told c =
+    let s = c.args.seen.now in
+    let p = c.args.priors.now in
+    let o = lent_output c.args.output.now.addresses.now c.args.output.now.figures.now in
+    let rank = rank_of c.args.node.scale c.args.node.point in
+    let given = (c.in_ok-priors.ensures {u = tt}).lent in
+    let q = c.in_ok-priors.priors in
+    let none : prior_of p.nodes.now p.children.now (layer_of p.floor) rank ≡ None = sym (λ j. prior_of (given.0 j) (given.1 j) (given.2 j) (c.rank-rank.ensures j)) ∙ prior_none q.nodes.now q.children.now q.layer c.rank-rank.result (sym c.in-None.ensures.found) in
+    sym (ap (vector_telling o) (prob_none (form_refusal s.tracker s.book.now s.queue.now) p.nodes.now p.children.now (layer_of p.floor) (nodes_of s.tracker s.book.now) rank (room_in o) (sym (c.in_ok-priors.ensures {u = tt}).number) (sym (c.in_ok-listing.ensures {u = tt}).number) none))

@@ -1,56 +1,25 @@
--- The places and the sum are those of the merge; 13 is tested on them, and the rest is what `fill` writes. Assumes nothing.
-use Rattle.std.proofs.Common.{◌≡◌, ℕ, ◌+◌, ◌/◌, length, refl, ap, ◌∙◌, arith}
-use native.Mathlib.Nat.{le-min}
+-- `vector` meets its contract: the places are the children's, and the figures are those of the counts.
+use Rattle.std.proofs.Common.{◌≡◌, ℕ, ◌+◌, ◌≤◌, length, ap, ◌∙◌, arith}
 use Rattle.priors.specs.Priors.{count_sum, total}
 use Rattle.divergence.specs.declared.probabilities.Size.{Size}
-use Rattle.divergence.specs.Merge.{merged_counts}
-use Rattle.divergence.specs.Readings.{room, answered, filled_figures}
 use Rattle.divergence.specs.Probability.{figure, figures_of}
-use Rattle.divergence.proofs.OutputLaws.{short_addresses, short_figures}
-use Rattle.divergence.proofs.MergeLaws.{merged_few}
-use Rattle.divergence.proofs.VectorLaws.{vector_short, vector_fits}
+use Rattle.divergence.specs.Merging.{counts_left}
+use Rattle.divergence.specs.Readings.{answered, room, filled_figures}
+use Rattle.divergence.specs.Asked.{lent_output}
+use Rattle.divergence.proofs.VectorLaws.{vector_fits}
 use Rattle.divergence.proofs.vectors.vector.Goals as goal
 
-pub returns-then-addresses-size : goal.returns-then-addresses-size
-returns-then-addresses-size c =
-    let counts = merged_counts c.args.ending c.args.children.now c.args.first c.args.book.now c.args.from c.args.end in
-    let places : c.merged_size-size.result.places ≡ length counts.children = ap (λ (z : Size). z.places) c.merged_size-size.ensures.value in
-    rw (vector_short (room c.args.addresses.now c.args.figures.now) counts (short_addresses (length c.args.addresses.now / 8) (length c.args.figures.now) (length counts.children) (omega (arith, places, c.if-addresses-size.true)))) (record { result_is = refl; addresses_are = refl; figures_are = refl })
-
-pub returns-then-figures-size : goal.returns-then-figures-size
-returns-then-figures-size c =
-    let counts = merged_counts c.args.ending c.args.children.now c.args.first c.args.book.now c.args.from c.args.end in
-    let places : c.merged_size-size.result.places ≡ length counts.children = ap (λ (z : Size). z.places) c.merged_size-size.ensures.value in
-    rw (vector_short (room c.args.addresses.now c.args.figures.now) counts (short_figures (length c.args.addresses.now / 8) (length c.args.figures.now) (length counts.children) (omega (arith, places, c.if-figures-size.true)))) (record { result_is = refl; addresses_are = refl; figures_are = refl })
-
-pub overflow_add-whole : goal.overflow_add-whole
-overflow_add-whole c =
-    let counts = merged_counts c.args.ending c.args.children.now c.args.first c.args.book.now c.args.from c.args.end in
-    let places : c.merged_size-size.result.places ≡ length counts.children = ap (λ (z : Size). z.places) c.merged_size-size.ensures.value in
-    let sum : c.merged_size-size.result.sum ≡ count_sum counts.children = ap (λ (z : Size). z.sum) c.merged_size-size.ensures.value in
-    record { fits = omega (arith, merged_few c.args.children.now c.args.first c.args.book.now c.args.from c.args.end, c.requires, sum, places, c.merged_size-size.ensures.sum_bound) }
-
-pub fill-requires : goal.fill-requires
-fill-requires c =
-    let counts = merged_counts c.args.ending c.args.children.now c.args.first c.args.book.now c.args.from c.args.end in
-    let places : c.merged_size-size.result.places ≡ length counts.children = ap (λ (z : Size). z.places) c.merged_size-size.ensures.value in
-    record { mergeable = c.requires.mergeable; end_in_bounds = omega (arith, places, c.if-addresses-size.false); end_in_bounds_2 = omega (arith, places, c.if-figures-size.false) }
-
-pub overflow_cast-filled : goal.overflow_cast-filled
-overflow_cast-filled c =
-    let counts = merged_counts c.args.ending c.args.children.now c.args.first c.args.book.now c.args.from c.args.end in
-    let places : c.merged_size-size.result.places ≡ length counts.children = ap (λ (z : Size). z.places) c.merged_size-size.ensures.value in
-    omega (arith, places, merged_few c.args.children.now c.args.first c.args.book.now c.args.from c.args.end, c.requires)
-
-pub returns : goal.returns
+pub returns-clause-told : goal.returns-clause-told
 unfolding total
-returns c =
-    let counts = merged_counts c.args.ending c.args.children.now c.args.first c.args.book.now c.args.from c.args.end in
-    let places : c.merged_size-size.result.places ≡ length counts.children = ap (λ (z : Size). z.places) c.merged_size-size.ensures.value in
-    let sum : c.merged_size-size.result.sum ≡ count_sum counts.children = ap (λ (z : Size). z.sum) c.merged_size-size.ensures.value in
-    let whole : c.args.ending + c.merged_size-size.result.sum ≡ total counts = ap (λ (n : ℕ). c.args.ending + n) sum in
-    rw (vector_fits (room c.args.addresses.now c.args.figures.now) counts (le-min (omega (arith, places, c.if-addresses-size.false)) (omega (arith, places, c.if-figures-size.false)))) (record {
-      result_is = λ i. answered (record { places = places i; ending = (c.figure.ensures ∙ ap (figure c.args.ending) whole) i });
-      addresses_are = c.fill.ensures.addresses_after;
-      figures_are = c.fill.ensures.figures_after ∙ ap (λ (n : ℕ). filled_figures (figures_of n counts.children) c.args.figures.now) whole;
+returns-clause-told c =
+    let o = c.args.output.now in
+    let counts = counts_left c.args.ending c.args.merge in
+    let places : c.size-size.result.places ≡ length counts.children = ap (λ (z : Size). z.places) c.size-size.ensures.value in
+    let sum : c.size-size.result.sum ≡ count_sum counts.children = ap (λ (z : Size). z.sum) c.size-size.ensures.value in
+    let whole : c.args.ending + c.size-size.result.sum ≡ total counts = ap (λ (n : ℕ). c.args.ending + n) sum in
+    let enough : length counts.children ≤ room o.addresses.now o.figures.now = omega (arith, places, c.room.ensures, c.if-room-size.false) in
+    rw (vector_fits (room o.addresses.now o.figures.now) counts enough)
+    (λ j. record {
+      answer = answered (record { places = places j; ending = (c.figure.ensures ∙ ap (figure c.args.ending) whole) j });
+      output = lent_output (c.fill.ensures.addresses_after j) ((c.fill.ensures.figures_after ∙ ap (λ (n : ℕ). filled_figures (figures_of n counts.children) o.figures.now) whole) j);
     })

@@ -10,13 +10,13 @@ use Rattle.priors.proofs.RecordLaws.{order_none, order_start, order_on, order_en
 use Rattle.priors.proofs.checks.nodes_ascend.Goals as goal
 
 pub returns-then-n-eq0 : goal.returns-then-n-eq0
-returns-then-n-eq0 c = sym (order_none c.args.nodes.now (sym c.if-n-eq0.true))
+returns-then-n-eq0 c = sym (order_none c.args.nodes.now (sym c.if-n-eq0.true ∙ c.record_count-n.ensures))
 
 pub loop-i-init : goal.loop-i-init
 loop-i-init c =
     let nodes = c.args.nodes.now in
     let start : c.record_at-last.result ≡ record_at nodes 0 = c.record_at-last.ensures in
-    (omega arith, rw start (order_start nodes (omega arith)))
+    rw start (order_start nodes (omega arith))
 
 pub returns-then-next-last : goal.returns-then-next-last
 returns-then-next-last c =
@@ -24,7 +24,7 @@ returns-then-next-last c =
     let i = c.loop-i.i in
     let last = c.loop-i.last in
     let low : (record_at nodes i).rank ≤ last = omega (arith, ap (λ (r : Record). r.rank) c.record_at-next.ensures) in
-    sym (c.loop-i.invariant.1 ∙ order_on nodes last i (omega arith) ∙ rw (le-ltb last (record_at nodes i).rank low))
+    sym (c.loop-i.invariant ∙ order_on nodes last i (omega arith) ∙ rw (le-ltb last (record_at nodes i).rank low))
 
 pub loop-i-preserved : goal.loop-i-preserved
 loop-i-preserved c =
@@ -33,10 +33,10 @@ loop-i-preserved c =
     let last = c.loop-i.last in
     let is : c.record_at-next.result ≡ record_at nodes i = c.record_at-next.ensures in
     let high : last < (record_at nodes i).rank = omega (arith, ap (λ (r : Record). r.rank) is) in
-    (omega arith, rw (is, add-one) (c.loop-i.invariant.1 ∙ order_on nodes last i (omega arith) ∙ rw (lt-ltb last (record_at nodes i).rank high)))
+    rw (is, add-one) (c.loop-i.invariant ∙ order_on nodes last i (omega arith) ∙ rw (lt-ltb last (record_at nodes i).rank high))
 
 pub returns : goal.returns
 returns c =
     let nodes = c.args.nodes.now in
     let e : c.loop-i.i ≡ record_count nodes = omega arith in
-    sym (c.loop-i.invariant.1 ∙ ap (λ (k : ℕ). ascends_after c.loop-i.last (drop k (records nodes))) e ∙ order_end nodes c.loop-i.last)
+    sym (c.loop-i.invariant ∙ ap (λ (k : ℕ). ascends_after c.loop-i.last (drop k (records nodes))) e ∙ order_end nodes c.loop-i.last)

@@ -1,4 +1,4 @@
-use native.Mathlib.Omega.{arith}
+use Rattle.std.proofs.Common.{arith}
 use lib.ListN.{length-set}
 use Rattle.priors.proofs.Fields.{store_sets}
 use Rattle.priors.proofs.words.write_u32.Goals as goal
@@ -13,4 +13,4 @@ pub bounds-s-at-4 : goal.bounds-s-at-4
 bounds-s-at-4 c = simp length-set (omega arith)
 
 pub returns : goal.returns
-returns c = store_sets c.args.s.now c.args.at c.args.v (omega arith)
+returns c = rw c.to_le_bytes.ensures (store_sets c.args.s.now c.args.at c.args.v (omega arith))

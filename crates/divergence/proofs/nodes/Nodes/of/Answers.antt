@@ -1,0 +1,12 @@
+-- `of` meets its contract: the first ending stands there, or there is no node.
+use Rattle.std.proofs.Common.{sym}
+use Rattle.divergence.proofs.WalkLaws.{first}
+use Rattle.divergence.proofs.nodes.Nodes.of.Goals as goal
+
+pub invariant_of-result : goal.invariant_of-result
+invariant_of-result c =
+    let at = first c.args.listing.now.bytes.now c.children_end.result c.args.listing.now.used c.children_end.ensures in
+    record { within = at.within; at_ending = at.ends }
+
+pub returns : goal.returns
+returns c = sym (first c.args.listing.now.bytes.now c.children_end.result c.args.listing.now.used c.children_end.ensures).nodes_are

@@ -1,8 +1,0 @@
--- `kit::priors_cases::same_lookups` is safe and ends: the look-ups that are left grow fewer. Assumes nothing.
-use Rattle.kit.proofs.priors_cases.same_lookups.Goals as goal
-
-pub loop-i-init : goal.loop-i-init
-loop-i-init c = tt
-
-pub loop-i-preserved : goal.loop-i-preserved
-loop-i-preserved c = tt

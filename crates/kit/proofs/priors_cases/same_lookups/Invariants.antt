@@ -1,9 +1,0 @@
--- `kit::priors_cases::same_lookups` is safe and ends: the look-ups that are left grow fewer. Assumes nothing.
-use Prim.Native.Nat.{◌-◌}
-use Rattle.kit.proofs.priors_cases.same_lookups.Given as goal
-
-abbrev pub invariant-loop-i : goal.invariant-loop-i
-invariant-loop-i l = Unit {0}
-
-abbrev pub decreases-loop-i : goal.decreases-loop-i
-decreases-loop-i l = l.n - l.i

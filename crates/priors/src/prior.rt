@@ -1,0 +1,86 @@
+// A node's prior: its record, and the chain of child records that its link starts. The chain ascends, so that the look-up of a child
+// ends with the first record that is not below the address wanted.
+ghost use Rattle.std.specs.Prelude.{◌≡◌, true, ◌≤◌, length};
+ghost use Rattle.priors.specs.Limits.{max_chain};
+ghost use Rattle.priors.specs.Rows.{count_of};
+ghost use Rattle.priors.specs.Priors.{record_count, ascends, chain_of, children_of, every_child, next_link_fits, prior_of_node, total};
+ghost use Rattle.priors.specs.Children.{reads_of};
+
+use crate::records::{Record, record_at};
+
+#[derive(Clone, Copy)]
+pub struct Prior<'a> {
+    pub node: Record,
+    pub children: &'a [u8],
+    pub ghost first_fits: { node.link ≤ record_count children.now },
+    pub ghost links_rise: { every_child children.now (next_link_fits children.now) ≡ true },
+    pub ghost ascending: { ascends (chain_of children.now node.link) ≡ true },
+    pub ghost short: { length (chain_of children.now node.link) ≤ max_chain },
+}
+
+// What the look-up of a child found, and how many records of the chain it read.
+#[derive(Clone, Copy, Debug, PartialEq, Eq)]
+pub struct ChildLookup {
+    pub count: Option<u32>,
+    pub read: u32,
+}
+
+// The count of the child with this address along the chain that `first` starts, and the number of records read: the walk ends with the first
+// that is not below the address. Its clauses say of `first` what a prior's type says of its link: walked by a method of `Prior`, the link
+// is loaded anew at each turn, and readings of all nodes take an eighth longer.
+fn child_along(children: &[u8], first: u32, rank: u64) -> ChildLookup
+    requires first_fits { first ≤ record_count children.now }
+    requires links_rise { every_child children.now (next_link_fits children.now) ≡ true }
+    requires ascending { ascends (chain_of children.now first) ≡ true }
+    ensures count_value { result.count ≡ count_of rank (children_of children.now first) }
+    ensures read_value { result.read ≡ reads_of rank (children_of children.now first) }
+{
+    let mut link = first;
+    let mut read = 0;
+    while link != 0 {
+        let next = record_at(children, link as usize - 1);
+        read += 1;
+        if rank < next.rank {
+            return ChildLookup { count: None, read };
+        }
+        if next.rank == rank {
+            return ChildLookup {
+                count: Some(next.count),
+                read,
+            };
+        }
+        link = next.link;
+    }
+    ChildLookup { count: None, read }
+}
+
+impl Prior<'_> {
+    // The count of the child with this address, and the number of records read.
+    pub fn child(&self, rank: u64) -> ChildLookup
+        ensures count_value { result.count ≡ count_of rank (children_of self.now.children.now self.now.node.link) }
+        ensures read_value { result.read ≡ reads_of rank (children_of self.now.children.now self.now.node.link) }
+    {
+        let first = self.node.link;
+        if first == 0 {
+            return ChildLookup {
+                count: None,
+                read: 0,
+            };
+        }
+        child_along(self.children, first, rank)
+    }
+
+    // The total of its counts.
+    pub fn total(&self) -> u64
+        ensures { result ≡ total (prior_of_node self.now.children.now self.now.node) }
+    {
+        let mut sum = self.node.count as u64;
+        let mut link = self.node.link as usize;
+        while link != 0 {
+            let next = record_at(self.children, link - 1);
+            sum += next.count as u64;
+            link = next.link as usize;
+        }
+        sum
+    }
+}
