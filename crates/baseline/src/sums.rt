@@ -42,7 +42,8 @@ impl SumPair {
 }
 
 impl KnotSums {
-    // One more record. A book has at most 16,384 entries, so no more divergences are counted.
+    // One more record. A book has at most 16,384 entries, so no more divergences are counted. Figure by figure: the
+    // number alone is whole.
     #[tactic(auto, unfolding(crate::specs::Sums::added))]
     fn added(self, stats: &KLDivergenceStats) -> Self
         requires { stats.now.nz_count ≤ max_entries }
@@ -85,6 +86,7 @@ fn put_pair(values: &mut [f64], at: usize, p: SumPair)
 }
 
 // What the knot numbered k from 0 holds.
+// Figure by figure: each has its place among the ten values that the C interface lends.
 #[tactic(auto, unfolding(crate::specs::Sums::sums_at))]
 pub(crate) fn sums_at(values: &[f64], k: usize) -> KnotSums
     requires { knot_values * k + 9 < length values.now }

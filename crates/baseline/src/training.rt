@@ -90,6 +90,7 @@ fn steps_in(places: &[u8], k: usize) -> &[u8]
     path_in(places, k)
 }
 
+// Knots and values apart, since the C interface lends two.
 impl<'a> Training<'a> {
     ghost use Rattle.baseline.specs.Courses.{lent_in, input_in, Holds, Added, book_stats, sampled, entered, all_entered, ended, Went};
 

@@ -44,7 +44,7 @@ fn count_at(entries: &mut EntriesMut, path: &Path, places: &[u16; 64])
 
 // Lists and counts what a path lists and counts, if there are at most `limit` entries then; else 12. The limit is the capacity, where
 // the book is one tracker's own.
-pub(crate) fn count_path(
+pub fn count_path(
     entries: &mut EntriesMut,
     path: &Path,
     limit: usize,

@@ -104,7 +104,8 @@ fn follows(last: Key, key: Key) -> bool
 }
 
 // The used entries have the form. Each entry is read once.
-pub(crate) fn entries_formed(book: &[u8], used: usize) -> bool
+// Bytes and a number: this is the test that a Listing rests on.
+pub fn entries_formed(book: &[u8], used: usize) -> bool
     requires { 24 * used ≤ length book.now }
     ensures { result ≡ formed (rows book.now used) }
 {
@@ -127,7 +128,7 @@ pub(crate) fn entries_formed(book: &[u8], used: usize) -> bool
 }
 
 // The first n places hold lengths of 1 to 64.
-pub(crate) fn lengths_fit(queue: &[u8], n: usize) -> bool
+pub fn lengths_fit(queue: &[u8], n: usize) -> bool
     requires { 516 * n ≤ length queue.now }
     ensures { result ≡ lengths_fit queue.now n }
 {

@@ -87,6 +87,7 @@ impl<'a> Path<'a> {
 
 // A node is listed and the step from it to the next counts one more. A step that has an entry has its node listed already; before one
 // that has none the node's ending may come in, and then its place is one further up.
+// A function, as those after it are, and no method: the entries are of another crate.
 fn add_pair(entries: &mut EntriesMut, node: u64, next: u64)
     requires endings_listed { EndingsListed (rows entries.old.bytes.now entries.old.used) }
     requires counts_up_to { CountsUpTo (2 ^ 32 - 2) (rows entries.old.bytes.now entries.old.used) }
@@ -123,7 +124,7 @@ pub fn add_steps(entries: &mut EntriesMut, path: &Path)
 }
 
 // Takes away what a path counted.
-pub(crate) fn take_away(entries: &mut EntriesMut, path: &Path, hints: &mut Hints, row: usize)
+pub fn take_away(entries: &mut EntriesMut, path: &Path, hints: &mut Hints, row: usize)
     ensures same_reference { entries.new.bytes.ghost_name ≡ entries.old.bytes.ghost_name }
     ensures len { length entries.new.bytes.now ≡ length entries.old.bytes.now }
     ensures rewritten { Rewritten entries.old.bytes.now entries.new.bytes.now entries.new.used (fade_all (counted_keys (path_of path.now.steps.now)) (rows entries.old.bytes.now entries.old.used)) }

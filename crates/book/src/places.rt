@@ -7,7 +7,8 @@ use crate::queue::steps_in;
 use entries::limits::{MAX_STEPS, PLACE_SIZE};
 use priors::words::read_u32;
 
-// The path in the place numbered k. One whose length is over 64 is no path, and is handed on as an empty one.
+// The path in the place numbered k. One whose length is over 64 is no path, and is handed on as an empty one:
+// `Path::check` turns both back by 10, so there is one test.
 #[tactic(auto, unfolding(crate::specs::Batches::path_in))]
 pub fn path_in(places: &[u8], k: usize) -> &[u8]
     requires { place_size * k + place_size ≤ length places.now }

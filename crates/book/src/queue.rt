@@ -1,4 +1,4 @@
-// The queue: places of 516 bytes, each a length, steps and zeros.
+// The queue: places of 516 bytes, each a length, steps and zeros, as the C interface lends it.
 ghost use Rattle.std.specs.Prelude.{◌≡◌, ◌+◌, ◌*◌, ◌≤◌, length, take, drop};
 ghost use Rattle.priors.specs.Word.{word, store};
 ghost use Rattle.book.specs.Calls.{place_bytes};
@@ -19,7 +19,7 @@ fn copy_over(to: &mut [u8], from: &[u8])
 }
 
 // The part of these places that holds the steps of the path in the place from `at`.
-pub(crate) fn steps_in(places: &[u8], at: usize) -> &[u8]
+pub fn steps_in(places: &[u8], at: usize) -> &[u8]
     requires { at + 4 + 8 * word places.now at ≤ length places.now }
     ensures { result.now ≡ take (8 * word places.now at) (drop (at + 4) places.now) }
 {
@@ -31,7 +31,7 @@ pub(crate) fn steps_in(places: &[u8], at: usize) -> &[u8]
 
 // Writes a path into the place from `at`: its length, its steps, zeros.
 #[tactic(auto, using(crate::proofs::StepLaws::path_length))]
-pub(crate) fn put_path(queue: &mut [u8], at: usize, path: &Path)
+pub fn put_path(queue: &mut [u8], at: usize, path: &Path)
     requires { at + 516 ≤ length queue.old }
     ensures { queue.new ≡ store queue.old at (place_bytes path.now.steps.now) }
 {

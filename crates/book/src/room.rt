@@ -1,4 +1,5 @@
-// Whether the nodes and transitions that would be listed fit the book, told before anything is changed.
+// Whether the nodes and transitions that would be listed fit the book, told before anything is changed. Functions and no methods: the
+// entries are of another crate.
 ghost use Rattle.std.specs.Prelude.{◌≡◌, not, ◌+◌, ◌*◌, ◌<◌, leb, eqb, length, get_or, take};
 ghost use Rattle.entries.specs.Keys.{key_value};
 ghost use Rattle.entries.specs.Entries.{rows};
@@ -29,6 +30,7 @@ fn listed_before(path: &Path, j: usize, key: Key) -> bool
 }
 
 // How many entries the key numbered j brings: one, if it has none and stands for the first time.
+// A number and no flag, since the callers add it up.
 fn entries_brought(entries: &Entries, path: &Path, j: usize) -> usize
     requires { j + 1 < 2 * length (path_of path.now.steps.now) }
     ensures { result ≡ brings (rows entries.now.bytes.now entries.now.used) (listed_keys (path_of path.now.steps.now)) j }

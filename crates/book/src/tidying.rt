@@ -69,7 +69,7 @@ fn close_gaps(entries: &mut [u8]) -> usize
 }
 
 // Drops every child that counts nothing and every node whose ending and children all count nothing. The result is the number of entries.
-pub(crate) fn drop_zeros(book: &mut [u8], used: usize) -> usize
+pub fn drop_zeros(book: &mut [u8], used: usize) -> usize
     requires used_in_bounds { 24 * used ≤ length book.old }
     requires used_value { formed (rows book.old used) ≡ true }
     ensures value { result ≡ length (kept (rows book.old used)) }

@@ -54,7 +54,7 @@ pub struct Stopped {
 impl<'a> Seen<'a> {
     // State, book and queue have the form.
     #[tactic(auto, using(crate::proofs::CallLaws::used_fits, crate::proofs::CallLaws::places_fit), unfolding(crate::specs::Form::in_form))]
-    fn in_form(&self) -> bool
+    pub fn in_form(&self) -> bool
         ensures { result ≡ in_form self.now.tracker self.now.book.now self.now.queue.now }
     {
         let t = self.tracker;
@@ -81,6 +81,7 @@ impl<'a> Seen<'a> {
     }
 }
 
+// Book and queue go beside the tracker: the C interface lends the three apart.
 impl Tracker {
     // Opens a tracker: book and queue are zeroed to their ends. 8 for a window over 1,024, 9 for what is lent.
     #[tactic(auto, unfolding(crate::specs::Calls::open_number, crate::specs::Calls::open_state, crate::specs::Calls::open_book, crate::specs::Calls::open_queue))]

@@ -2,6 +2,7 @@
 // another, ascending.
 ghost use Rattle.std.specs.Prelude.{◌≡◌, ◌+◌, ◌*◌, ◌<◌, ◌≤◌, map, length};
 ghost use Rattle.priors.specs.Rows.{row, keys, Ascends};
+ghost use Rattle.priors.specs.Priors.{count_sum};
 ghost use Rattle.entries.specs.Limits.{max_entries};
 ghost use Rattle.entries.specs.Ascending.{Ascends-prop};
 ghost use Rattle.entries.specs.Entries.{row_at, entry_count_at};
@@ -54,6 +55,20 @@ pub fn child_at(book: &[u8], i: usize) -> Child
     }
 }
 
+// The total of the counts in the entries from a place up to another.
+pub fn count_total(book: &[u8], from: usize, to: usize) -> u64
+    requires from_le_to { from ≤ to }
+    requires few { to ≤ max_entries }
+    requires in_bounds { 24 * to ≤ length book.now }
+    ensures { result ≡ count_sum (part book.now from to) }
+{
+    let mut sum = 0;
+    for i in from..to {
+        sum += u64::from(read_u32(book, ENTRY_SIZE * i + 20));
+    }
+    sum
+}
+
 impl<'a> Evidence<'a> {
     ghost use Rattle.std.specs.Prelude.{IfSome, option_map};
     ghost use Rattle.priors.specs.Priors.{total};
@@ -67,12 +82,13 @@ impl<'a> Evidence<'a> {
     pub fn find(listing: &Listing<'a>, rank: u64) -> Option<Self>
         ensures evidence { option_map (λ e. (listed_node e).evidence) result ≡ evidence_of rank (listed_nodes (rows listing.now.bytes.now listing.now.used)) }
         ensures address { IfSome result (λ e. (listed_node e).address ≡ rank) }
+        ensures within { IfSome result (λ e. (e.bytes.now ≡ listing.now.bytes.now) × (e.end ≤ listing.now.used)) }
     {
         let ending = listing.entries().find(Key::ending(rank)).ok()?;
         Some(Evidence {
             bytes: listing.bytes,
             ending,
-            end: children_end(listing, ending + 1),
+            end: children_end(listing.bytes, listing.used, ending + 1),
         })
     }
 
@@ -94,11 +110,7 @@ impl<'a> Evidence<'a> {
     pub fn total(&self) -> u64
         ensures { result ≡ total (listed_node self.now).evidence }
     {
-        let mut sum = 0;
-        for i in self.ending..self.end {
-            sum += u64::from(read_u32(self.bytes, ENTRY_SIZE * i + 20));
-        }
-        sum
+        count_total(self.bytes, self.ending, self.end)
     }
 
     // The refusal that names the node.

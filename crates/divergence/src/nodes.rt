@@ -18,16 +18,18 @@ fn is_ending(book: &[u8], i: usize) -> bool
 }
 
 // The first place from i on whose entry is an ending, or the end.
-pub fn children_end(listing: &Listing, i: usize) -> usize
-    requires { i ≤ listing.now.used }
-    ensures { result ≡ i + leading (part listing.now.bytes.now i listing.now.used) }
+// A place and no Option: it bounds the node's entries. Bytes and a number: it asks for no tested form.
+pub fn children_end(book: &[u8], used: usize, i: usize) -> usize
+    requires i_le_used { i ≤ used }
+    requires used_in_bounds { 24 * used ≤ length book.now }
+    ensures { result ≡ i + leading (part book.now i used) }
 {
-    for at in i..listing.used {
-        if is_ending(listing.bytes, at) {
+    for at in i..used {
+        if is_ending(book, at) {
             return at;
         }
     }
-    listing.used
+    used
 }
 
 // The nodes from a place on, where an ending stands unless it is the end.
@@ -49,7 +51,7 @@ impl<'a> Nodes<'a> {
     {
         Nodes {
             listing: *listing,
-            place: children_end(listing, 0),
+            place: children_end(listing.bytes, listing.used, 0),
         }
     }
 
@@ -62,7 +64,7 @@ impl<'a> Nodes<'a> {
         if ending == listing.used {
             return None;
         }
-        let end = children_end(&listing, ending + 1);
+        let end = children_end(listing.bytes, listing.used, ending + 1);
         *self = Nodes {
             listing,
             place: end,

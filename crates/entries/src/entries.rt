@@ -110,7 +110,7 @@ impl EntriesMut<'_> {
     }
 
     // Puts another count into the entry at the place i.
-    #[tactic(auto, using(crate::proofs::ChangeLaws::counted_ascends), unfolding(crate::specs::Entries::with_count))]
+    #[tactic(auto, using(crate::proofs::ChangeLaws::counted_ascends))]
     pub(crate) fn set_count(&mut self, i: usize, count: u32)
         requires { i < self.old.used }
         ensures same_reference { self.new.bytes.ghost_name ≡ self.old.bytes.ghost_name }
@@ -118,7 +118,7 @@ impl EntriesMut<'_> {
         ensures bytes { self.new.bytes.now ≡ with_count self.old.bytes.now i count }
         ensures used { self.new.used ≡ self.old.used }
     {
-        write_u32(self.bytes, ENTRY_SIZE * i + 20, count);
+        put_count(self.bytes, i, count);
     }
 }
 
@@ -146,13 +146,24 @@ pub fn put_entry(s: &mut [u8], at: usize, key: Key, count: u32)
 }
 
 // Puts an entry in at the place i of n entries and moves those from there on one place up.
-fn put_in(s: &mut [u8], n: usize, i: usize, key: Key, count: u32)
+// Bytes and a number: while the entry goes in they are no Entries.
+pub fn put_in(s: &mut [u8], n: usize, i: usize, key: Key, count: u32)
     requires i_le_n { i ≤ n }
     requires room { 24 * n + 24 ≤ length s.old }
     ensures { s.new ≡ with_entry s.old n i (row (key_value key) count) }
 {
     open_gap(s, ENTRY_SIZE * i, ENTRY_SIZE * n);
     put_entry(s, ENTRY_SIZE * i, key, count);
+}
+
+// Puts another count into the entry at the place i.
+// Bytes, whose other entries need no order.
+#[tactic(auto, unfolding(crate::specs::Entries::with_count))]
+pub fn put_count(s: &mut [u8], i: usize, count: u32)
+    requires { 24 * i + 24 ≤ length s.old }
+    ensures { s.new ≡ with_count s.old i count }
+{
+    write_u32(s, ENTRY_SIZE * i + 20, count);
 }
 
 // Moves the bytes of s from `from` up to `to` an entry's size up. One by one: the C interface promises that the archive wants memset

@@ -1,5 +1,5 @@
 // Hints: places where a key stood when it was last looked up, in a table by a hash of the key. A hint is looked at before it is believed, so
-// the table may hold anything, and no contract speaks of what it holds.
+// the table may hold anything, and no contract speaks of what it holds. There is no heap, so no map: slots and rows lie in one lent array.
 ghost use Rattle.std.specs.Prelude.{◌≡◌, true, ◌^◌, ◌≤◌, ◌<◌, IfSome, length};
 ghost use Rattle.priors.specs.Search.{holds};
 ghost use Rattle.entries.specs.Keys.{key_value};
@@ -60,6 +60,7 @@ impl<'a> Hints<'a> {
 
     // Notes the places of all entries in a fresh table, for a list of paths of n bytes that is long enough: in the first slot of a key,
     // or in the second where the first is in use.
+    // 0 is an empty slot: an Option would double the table.
     pub fn note_all(&mut self, entries: &Entries, n: usize) {
         if n < MANY || self.table.len() < SLOTS {
             return;
@@ -116,7 +117,7 @@ impl<'a> Hints<'a> {
 
     // Finds a key: at a hinted place, or by halving, and then its place is noted.
     #[tactic(auto, using(crate::proofs::HalvingLaws::stands_found))]
-    fn find_hinted(&mut self, entries: &Entries, key: Key) -> Result<usize, usize>
+    pub fn find_hinted(&mut self, entries: &Entries, key: Key) -> Result<usize, usize>
         ensures { result ≡ find_in (rows entries.now.bytes.now entries.now.used) (key_value key) }
     {
         if self.table.len() < SLOTS {

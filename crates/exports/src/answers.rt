@@ -1,5 +1,6 @@
 // Each answer of the watch as a code, with its parts in lent numbers. An answer writes them all; none and a refusal write nothing,
-// but 14 and 15 write their node, and a child that is not there the number of records read.
+// but 14 and 15 write their node, a list of paths its state and the number taken, and a child that is not there the number of records
+// read.
 ghost use Rattle.std.specs.Prelude.{◌≡◌, MatchOption, MatchResult};
 ghost use Rattle.priors.specs.Refusals.{checked_number, named_node};
 ghost use Rattle.priors.specs.Children.{count_told};
@@ -59,7 +60,7 @@ where
 }
 
 // The node that 14 and 15 name.
-fn name_node<T: Copy>(answer: Result<T, Refusal>, scale: &mut i32, point: &mut u32)
+pub fn name_node<T: Copy>(answer: Result<T, Refusal>, scale: &mut i32, point: &mut u32)
     ensures scale_after { MatchResult answer (λ x. scale.new ≡ scale.old) (λ r. scale.new ≡ scale_or (named_node r) scale.old) }
     ensures point_after { MatchResult answer (λ x. point.new ≡ point.old) (λ r. point.new ≡ point_or (named_node r) point.old) }
 {
@@ -191,6 +192,7 @@ pub fn tell_trained(
     tell(answer.map(Some), &mut write)
 }
 
+// In the order of the header.
 pub fn tell_baseline(
     answer: Result<KLDivergenceBaselineStats, Reason>,
     figures: &mut [f64; 10],

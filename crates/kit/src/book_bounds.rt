@@ -1,5 +1,5 @@
 // Openings and adds at the ends of their rules: each is one step inside a limit or one step past it, and the number it gets is the
-// one of 01's table.
+// one of 01's table, with 0 for none: numbers, since they are what a call of the C interface gives.
 use crate::refusals::number_of;
 use crate::tallies::Tally;
 use crate::tape::first_of;

@@ -6,7 +6,8 @@ use crate::tape::{Place, first_of};
 use book::trackers::{Seen, Tracker};
 use priors::refusals::Reason;
 
-// A tracker as it stands, and the buffers that it is lent the first bytes of: so many.
+// A tracker as it stands, and the buffers that it is lent the first bytes of: so many. Lengths beside the buffers, since a later opening
+// may be lent more of them.
 #[derive(Drop)]
 pub struct Play<'a> {
     pub tracker: Tracker,

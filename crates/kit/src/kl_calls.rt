@@ -26,7 +26,7 @@ pub fn node_call(p: &Play, tables: &LentTables, priors: &LentPriors, at: &mut Pl
     same_node(at, posterior_kl_divergence(&p.seen(), tables, priors, node))
 }
 
-// The five figures and the two numbers come next.
+// The five figures and the two numbers come next. Figure by figure: a NaN is to be the same as a NaN, so no `==`.
 fn same_record(at: &mut Place, t: Tally) -> bool {
     let s = t.stats;
     is_next(at, s.max)

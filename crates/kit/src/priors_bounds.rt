@@ -1,5 +1,6 @@
 // Priors and tables at the ends of their rules: each input is one step inside a limit or one step past it, and the number it gets
-// is the one of 01's table. Tables of the largest lengths are tried elsewhere: they do not fit the stack here.
+// is the one of 01's table, with 0 for none: numbers, since they are what a call of the C interface gives. Tables of the largest lengths
+// are tried elsewhere: they do not fit the stack here.
 use crate::refusals::number_of;
 use crate::tallies::Tally;
 use crate::tape::first_of;
@@ -70,6 +71,7 @@ fn counts_nothing(link: u32) -> Prior {
 }
 
 // The link of the record numbered i, where the first `linked` records are one chain.
+// A link as it is lent: 0 ends a chain.
 fn chain_link(i: u32, linked: u32) -> u32 {
     if linked.saturating_sub(i) < 2 {
         return 0;

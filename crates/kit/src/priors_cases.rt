@@ -8,6 +8,7 @@ use priors::records::{record_at, record_count};
 use priors::tables::LentTables;
 
 // The link of the child record numbered `link` from 1; 0 past the end.
+// It is a link as it is lent.
 fn next_link(children: &[u8], link: u32) -> u32 {
     if link == 0 || record_count(children) < link as usize {
         return 0;
@@ -74,7 +75,7 @@ fn same_tables(at: &mut Place) -> Option<bool> {
     Some(at.word() == number_of(LentTables { g, d }.check()) && at.is_at_end())
 }
 
-// A case, by its kind.
+// A case, by its kind: a number of the file that is told apart here alone, so it has no enum.
 fn same_case(case: &mut Place) -> Option<bool> {
     match case.word() {
         1 => same_tables(case),

@@ -4,6 +4,7 @@ use crate::tape::Place;
 use baseline::baselines::Baseline;
 use baseline::figures::{KLDivergenceBaselineStats, MeanVar};
 
+// Figure by figure, here and below: a NaN is to be the same as a NaN, so no `==`.
 fn same_pair(at: &mut Place, p: MeanVar) -> bool {
     is_next(at, p.mean) && is_next(at, p.variance)
 }

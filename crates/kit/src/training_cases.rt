@@ -3,7 +3,7 @@ use crate::tallies::{self, Tally};
 use crate::tape::Place;
 use crate::{stats_cases, train_cases};
 
-// A case, by its kind.
+// A case, by its kind: a number of the file that is told apart here alone, so it has no enum.
 fn same_case(case: &mut Place) -> Option<bool> {
     match case.word() {
         1 => train_cases::same_case(case),

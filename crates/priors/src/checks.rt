@@ -25,6 +25,7 @@ fn whole_records(s: &[u8], most: usize) -> bool
 }
 
 // Nodes strictly ascend.
+// Over bytes, as the C interface lends them, so no slice's own `is_sorted` serves.
 fn nodes_ascend(nodes: &[u8]) -> bool
     ensures { result ≡ ascends (records nodes.now) }
 {
@@ -70,6 +71,7 @@ impl Chain<'_> {
     }
 
     // It strictly ascends.
+    // Along links, so no slice's own `is_sorted` serves.
     fn ascends(&self) -> bool
         ensures { result ≡ ascends (chain_of self.now.children.now self.now.first) }
     {
@@ -144,6 +146,7 @@ impl<'a> Linked<'a> {
 }
 
 // Every first link is 0 or a record's number.
+// Two slices: these are the tests that Linked rests on.
 fn first_links_fit(nodes: &[u8], children: &[u8]) -> bool
     ensures { result ≡ every_node nodes.now (first_link_fits nodes.now children.now) }
 {
@@ -197,7 +200,7 @@ fn check_records(nodes: &[u8], children: &[u8]) -> Result<(), Reason>
 }
 
 // Numbers 3 to 7, and then 22.
-pub(crate) fn check_priors(nodes: &[u8], children: &[u8], layer: u32) -> Result<(), Reason>
+pub fn check_priors(nodes: &[u8], children: &[u8], layer: u32) -> Result<(), Reason>
     ensures { checked_number result ≡ priors_refusal nodes.now children.now layer }
 {
     check_records(nodes, children)?;

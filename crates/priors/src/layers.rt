@@ -1,7 +1,8 @@
 // Number 22: no two node records in the layer below the floor have one point. Records are told apart by slots, twelve bits made of the
 // point: each record is compared only with the earlier ones of its slot, which links join from the last one back. So the work is about
 // one pass over them, unless many points meet in few slots; slots and links are 16,384 bytes of stack.
-ghost use Rattle.std.specs.Prelude.{◌≡◌, ◌<◌};
+ghost use Rattle.std.specs.Prelude.{◌≡◌, ◌≤◌, ◌<◌};
+ghost use Rattle.priors.specs.Limits.{max_nodes};
 ghost use Rattle.priors.specs.Priors.{record_count, one_point, clear_before, points_differ};
 ghost use Rattle.priors.specs.Layer.{slot_of, Latest, Linked};
 
@@ -23,6 +24,7 @@ fn one_point(layer: u32, a: u64, b: u64) -> bool
 impl Nodes<'_> {
     // The record i has one point with none before it: those with its slot are looked at, along their links from the last one on.
     fn clear_along(&self, layer: u32, i: usize, head: u16, links: &[u16; 4096]) -> bool
+        requires few { record_count self.now.bytes.now ≤ max_nodes }
         requires i_in_bounds { i < record_count self.now.bytes.now }
         requires latest { Latest self.now.bytes.now i (slot_of self.now.bytes.now i) head }
         requires linked { Linked self.now.bytes.now i links.now }
@@ -41,6 +43,7 @@ impl Nodes<'_> {
 
     // Each record in the layer in turn.
     fn slots_clear(&self, layer: u32) -> bool
+        requires { record_count self.now.bytes.now ≤ max_nodes }
         ensures { result ≡ points_differ self.now.bytes.now layer }
     {
         // Two arrays of links, 0 for none: there is no heap, so no map of slots.
@@ -64,6 +67,7 @@ impl Nodes<'_> {
 
     // Where the layer has no record, or only one, nothing is to be compared.
     pub fn points_differ(&self, layer: u32) -> bool
+        requires { record_count self.now.bytes.now ≤ max_nodes }
         ensures { result ≡ points_differ self.now.bytes.now layer }
     {
         if self.len() < 2 {

@@ -1,15 +1,15 @@
 // Lent priors that passed their rules, and the look-up of a node in them: by its exact address, by halving, or in the layer below the
 // floor by its point.
-ghost use Rattle.std.specs.Prelude.{◌≡◌, IfOk, IfSome, option_map};
+ghost use Rattle.std.specs.Prelude.{◌≡◌, true, IfOk, IfSome, option_map};
 ghost use Rattle.priors.specs.Refusals.{checked_number};
-ghost use Rattle.priors.specs.Priors.{layer_of, records, find_record, priors_refusal};
+ghost use Rattle.priors.specs.Priors.{layer_of, records, points_differ, find_record, priors_refusal};
 ghost use Rattle.priors.specs.Layer.{Absent, FoundAt};
 
 use crate::addresses::layer_of;
 use crate::checks::check_priors;
 use crate::places::Nodes;
 use crate::prior::Prior;
-use crate::records::record_at;
+use crate::records::{Record, record_at};
 use crate::refusals::Reason;
 
 // Priors as a call is lent them, with their floor scale.
@@ -53,9 +53,9 @@ impl<'a> Priors<'a> {
         ensures lent { IfSome result (λ p. p.children.now ≡ self.now.children.now) }
     {
         let nodes = Nodes { bytes: self.nodes };
-        let at = nodes.place_of(self.layer, rank)?;
+        let node = nodes.find(self.layer, rank)?;
         Some(Prior {
-            node: record_at(self.nodes, at),
+            node,
             children: self.children,
         })
     }
@@ -95,7 +95,7 @@ impl Nodes<'_> {
 
     // The place of the record that a look-up of this rank finds: the one with this exact address, or else in the layer the one with
     // its point.
-    pub fn place_of(&self, layer: u32, rank: u64) -> Option<usize>
+    fn place_of(&self, layer: u32, rank: u64) -> Option<usize>
         ensures { FoundAt self.now.bytes.now layer rank result }
     {
         let n = self.len();
@@ -104,5 +104,14 @@ impl Nodes<'_> {
             return Some(at);
         }
         self.place_by_point(layer, rank)
+    }
+
+    // The record that a look-up of this rank finds, where no two in the layer have one point.
+    pub fn find(&self, layer: u32, rank: u64) -> Option<Record>
+        requires { points_differ self.now.bytes.now layer ≡ true }
+        ensures { result ≡ find_record layer rank (records self.now.bytes.now) }
+    {
+        let at = self.place_of(layer, rank)?;
+        Some(record_at(self.bytes, at))
     }
 }

@@ -1,6 +1,5 @@
 // Where the node records of an address and those after it begin. Nodes ascend, so that halving finds it.
 ghost use Rattle.std.specs.Prelude.{◌≡◌, true, ℕ, Bool, ◌≤◌, ◌<◌};
-ghost use Rattle.priors.specs.Limits.{max_nodes};
 ghost use Rattle.priors.specs.Below.{Falls, Parts};
 ghost use Rattle.priors.specs.Priors.{record_at, records, record_count, ascends};
 ghost use Rattle.priors.specs.Layer.{NoneBelow, FirstFrom};
@@ -26,12 +25,11 @@ pub fn partition_point<F: Fn(usize) -> bool>(from: usize, to: usize, is_below: F
     lo
 }
 
-// Node records that strictly ascend, and at most 4,096. They are bytes, as the C interface lends them, so no slice's own search serves.
+// Node records that strictly ascend. They are bytes, as the C interface lends them, so no slice's own search serves.
 #[derive(Clone, Copy)]
 pub struct Nodes<'a> {
     pub bytes: &'a [u8],
     pub ghost ascending: { ascends (records bytes.now) ≡ true },
-    pub ghost few: { record_count bytes.now ≤ max_nodes },
 }
 
 impl Nodes<'_> {
@@ -60,6 +58,7 @@ impl Nodes<'_> {
     }
 
     // The same with no end given: in steps that double, then by halving in the last, so that what is near `from` is found soon.
+    // A place and no Option, as of Rust's own partition_point: the search goes on from the end too.
     pub fn first_from(&self, from: usize, rank: u64) -> usize
         requires { from ≤ record_count self.now.bytes.now }
         ensures { FirstFrom self.now.bytes.now from rank result }

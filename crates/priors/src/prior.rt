@@ -28,7 +28,7 @@ pub struct ChildLookup {
 // The count of the child with this address along the chain that `first` starts, and the number of records read: the walk ends with the first
 // that is not below the address. Its clauses say of `first` what a prior's type says of its link: walked by a method of `Prior`, the link
 // is loaded anew at each turn, and readings of all nodes take an eighth longer.
-fn child_along(children: &[u8], first: u32, rank: u64) -> ChildLookup
+pub fn child_along(children: &[u8], first: u32, rank: u64) -> ChildLookup
     requires first_fits { first ≤ record_count children.now }
     requires links_rise { every_child children.now (next_link_fits children.now) ≡ true }
     requires ascending { ascends (chain_of children.now first) ≡ true }
@@ -54,6 +54,23 @@ fn child_along(children: &[u8], first: u32, rank: u64) -> ChildLookup
     ChildLookup { count: None, read }
 }
 
+// The total of the counts of this node with the chain that its link starts.
+pub fn total(children: &[u8], node: Record) -> u64
+    requires first_fits { node.link ≤ record_count children.now }
+    requires links_rise { every_child children.now (next_link_fits children.now) ≡ true }
+    requires short { length (chain_of children.now node.link) ≤ max_chain }
+    ensures { result ≡ total (prior_of_node children.now node) }
+{
+    let mut sum = node.count as u64;
+    let mut link = node.link as usize;
+    while link != 0 {
+        let next = record_at(children, link - 1);
+        sum += next.count as u64;
+        link = next.link as usize;
+    }
+    sum
+}
+
 impl Prior<'_> {
     // The count of the child with this address, and the number of records read.
     pub fn child(&self, rank: u64) -> ChildLookup
@@ -74,13 +91,6 @@ impl Prior<'_> {
     pub fn total(&self) -> u64
         ensures { result ≡ total (prior_of_node self.now.children.now self.now.node) }
     {
-        let mut sum = self.node.count as u64;
-        let mut link = self.node.link as usize;
-        while link != 0 {
-            let next = record_at(self.children, link - 1);
-            sum += next.count as u64;
-            link = next.link as usize;
-        }
-        sum
+        total(self.children, self.node)
     }
 }

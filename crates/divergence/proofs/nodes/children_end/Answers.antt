@@ -5,15 +5,12 @@ use Rattle.divergence.proofs.nodes.children_end.Goals as goal
 
 pub returns-then-is_ending : goal.returns-then-is_ending
 returns-then-is_ending c =
-    let l = c.args.listing.now in
-    omega (arith, leading_ending l.bytes.now c.loop-at.at l.used c.loop-at-test.true (sym c.is_ending.ensures ∙ c.if-is_ending.true), c.loop-at.invariant)
+    omega (arith, leading_ending c.args.book.now c.loop-at.at c.args.used c.loop-at-test.true (sym c.is_ending.ensures ∙ c.if-is_ending.true), c.loop-at.invariant)
 
 pub loop-at-preserved : goal.loop-at-preserved
 loop-at-preserved c =
-    let l = c.args.listing.now in
-    omega (arith, leading_child l.bytes.now c.loop-at.at l.used c.loop-at-test.true (sym c.is_ending.ensures ∙ c.if-is_ending.false), c.loop-at.invariant)
+    omega (arith, leading_child c.args.book.now c.loop-at.at c.args.used c.loop-at-test.true (sym c.is_ending.ensures ∙ c.if-is_ending.false), c.loop-at.invariant)
 
 pub returns : goal.returns
 returns c =
-    let l = c.args.listing.now in
-    omega (arith, leading_none l.bytes.now c.loop-at.at l.used c.loop-at-test.false, c.loop-at.invariant, c.loop-at.auto)
+    omega (arith, leading_none c.args.book.now c.loop-at.at c.args.used c.loop-at-test.false, c.loop-at.invariant, c.loop-at.auto)

@@ -4,4 +4,4 @@ use Rattle.divergence.specs.Parts.{part, leading}
 use Rattle.divergence.proofs.nodes.children_end.Given as goal
 
 abbrev pub invariant-loop-at : goal.invariant-loop-at
-invariant-loop-at l = l.i + leading (part l.listing.bytes.now l.i l.listing.used) ≡ l.at + leading (part l.listing.bytes.now l.at l.listing.used)
+invariant-loop-at l = l.i + leading (part l.book l.i l.used) ≡ l.at + leading (part l.book l.at l.used)

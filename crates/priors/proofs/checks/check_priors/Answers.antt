@@ -11,7 +11,12 @@ use Rattle.priors.proofs.checks.check_priors.Goals as goal
 pub invariant_of-ascending : goal.invariant_of-ascending
 invariant_of-ascending c =
     let ok = recorded c.args.nodes.now c.args.children.now (sym c.in_ok-check_records.ensures) in
-    record { ascending = ok.ordered; few = not_too_many c.args.nodes.now max_nodes ok.whole }
+    record { ascending = ok.ordered }
+
+pub points_differ-requires : goal.points_differ-requires
+points_differ-requires c =
+    let ok = recorded c.args.nodes.now c.args.children.now (sym c.in_ok-check_records.ensures) in
+    not_too_many c.args.nodes.now max_nodes ok.whole
 
 pub returns-in_err-check_records : goal.returns-in_err-check_records
 returns-in_err-check_records c =

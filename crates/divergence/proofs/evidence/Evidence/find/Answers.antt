@@ -1,5 +1,5 @@
 -- `find` meets its contract: the ending is found by its key, and its children end where the next one stands.
-use Rattle.std.proofs.Common.{◌≡◌, ◌<◌, sym, ◌∙◌, arith}
+use Rattle.std.proofs.Common.{◌≡◌, ◌<◌, refl, sym, ◌∙◌, arith}
 use Rattle.std.specs.Prelude.{Ok, Err}
 use Rattle.entries.specs.Keys.{end_key}
 use Rattle.entries.specs.Entries.{rows, find_in}
@@ -25,7 +25,7 @@ pub children_end-requires : goal.children_end-requires
 children_end-requires c =
     let l = c.args.listing.now in
     let is : Ok c.in_ok-ending.ending ≡ find_in (rows l.bytes.now l.used) (end_key c.args.rank) = from_some c.find.result c.in_ok-ending.ending (sym c.ok.ensures.value ∙ c.in_ok-ending.was {u = tt}) ∙ c.find.ensures ∙ (λ j. find_in (rows (c.entries.ensures.bytes j) (c.entries.ensures.used j)) (c.ending.ensures j)) in
-    omega (arith, found_in_use l.bytes.now l.used l.formed c.args.rank c.in_ok-ending.ending is)
+    record { i_le_used = omega (arith, found_in_use l.bytes.now l.used l.formed c.args.rank c.in_ok-ending.ending is); used_in_bounds = l.in_bounds }
 
 pub invariant_of-result : goal.invariant_of-result
 invariant_of-result c =
@@ -54,3 +54,11 @@ returns-clause-address c =
     let i = c.in_ok-ending.ending in
     let is : Ok i ≡ find_in (rows l.bytes.now l.used) (end_key c.args.rank) = from_some c.find.result i (sym c.ok.ensures.value ∙ c.in_ok-ending.was {u = tt}) ∙ c.find.ensures ∙ (λ j. find_in (rows (c.entries.ensures.bytes j) (c.entries.ensures.used j)) (c.ending.ensures j)) in
     found_node l.bytes.now l.used c.args.rank i (found_in_use l.bytes.now l.used l.formed c.args.rank i is) is
+
+pub returns-clause-within : goal.returns-clause-within
+returns-clause-within c =
+    let l = c.args.listing.now in
+    let i = c.in_ok-ending.ending in
+    let is : Ok i ≡ find_in (rows l.bytes.now l.used) (end_key c.args.rank) = from_some c.find.result i (sym c.ok.ensures.value ∙ c.in_ok-ending.was {u = tt}) ∙ c.find.ensures ∙ (λ j. find_in (rows (c.entries.ensures.bytes j) (c.entries.ensures.used j)) (c.ending.ensures j)) in
+    let at = listed_end l.bytes.now l.used l.formed i (found_in_use l.bytes.now l.used l.formed c.args.rank i is) in
+    (refl, omega (arith, c.children_end.ensures, at.1))

@@ -30,7 +30,7 @@ clear_along-requires c =
     let own : slot c.rank_at-own.result ≡ slot_of nodes i = ap slot c.rank_at-own.ensures in
     let head = get_or c.loop-i.heads (slot c.rank_at-own.result) 0 in
     let latest : Latest nodes i (slot_of nodes i) head = rw own (c.loop-i.invariant.latest (slot_of nodes i) (omega arith)) in
-    record { i_in_bounds = omega arith; latest = latest; linked = c.loop-i.invariant.linked }
+    record { few = c.requires; i_in_bounds = omega arith; latest = latest; linked = c.loop-i.invariant.linked }
 
 pub returns-then-not-clear_along : goal.returns-then-not-clear_along
 unfolding points_differ
@@ -51,7 +51,7 @@ loop-i-preserved c =
     record {
       clear = rw add-one (all_more (clear_before nodes layer) i c.loop-i.invariant.clear (sym c.clear_along.ensures ∙ c.if-not-clear_along.false));
       latest = heads_next nodes i c.loop-i.heads (slot c.rank_at-own.result) c.loop-i.invariant.heads_len own c.loop-i.invariant.latest;
-      linked = links_next nodes i c.loop-i.links head c.loop-i.invariant.links_len (omega (arith, c.args.self.now.few)) c.loop-i.invariant.linked latest;
+      linked = links_next nodes i c.loop-i.links head c.loop-i.invariant.links_len (omega (arith, c.requires)) c.loop-i.invariant.linked latest;
       heads_len = length-set c.loop-i.heads _ _ ∙ c.loop-i.invariant.heads_len;
       links_len = length-set c.loop-i.links _ _ ∙ c.loop-i.invariant.links_len;
     }
