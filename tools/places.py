@@ -39,7 +39,7 @@ class Function:
         self.head, self.clauses, self.body, self.said = head, clauses, body, said
         self.crate = path.split("/")[1]
         self.place = f"{path}:{line}:{name}"
-        inside = re.search(r"\((.*)\)", head.split("->")[0], re.S).group(1)
+        inside = re.search(r"\((.*)\)", head.split("->")[0].replace("pub(crate)", "pub"), re.S).group(1)
         self.params = []
         for p in split(inside):
             name, _, kind = p.partition(":")

@@ -4,7 +4,7 @@ use Prim.Native.Nat.{ℕ, zero, suc, ◌+◌, ◌≤◌, ◌<◌}
 use native.Mathlib.Numerals.{add-one}
 use native.Mathlib.Omega.{arith}
 use mathlib.Core.List.{List, [], ◌∷◌, ◌++◌}
-use lib.ListN.{length, get_or, take, drop, set, replicate, length-append, length-take, length-drop}
+use lib.ListN.{length, get_or, take, drop, set, replicate, length-take}
 use lib.Seq.{drop-cons, set_at, append_snoc}
 use Rattle.priors.specs.Below.{list_of}
 use Rattle.priors.proofs.BelowLaws.{length_list_of}
@@ -23,14 +23,12 @@ module _ {X : Type 0} where
         ∙ ap (λ (l : List X). l ++ drop (suc i) s₀) (sym (list_of_more i f))
         ∙ ap (λ (k : ℕ). list_of k f ++ drop k s₀) (sym (add-one i))
 
+  -- so many taken from the start
+  pub taken_length : (s : List X) (n : ℕ) → n ≤ length s → n ≡ length (take n s)
+  taken_length s n h = simp length-take (omega arith)
+
   -- a part at the start that is filled with one value
   pub part_filled : (a : X) (s z : List X) (k n : ℕ) → k ≡ n → n ≤ length s → z ≡ replicate (length (take k s)) a → z ++ drop k s ≡ replicate n a ++ drop n s
   part_filled a s z k n e h is =
       let l : length (take k s) ≡ n = simp length-take (omega arith) in
       ap₂ (λ (x : List X) (m : ℕ). x ++ drop m s) (is ∙ ap (λ (m : ℕ). replicate m a) l) e
-
-  -- and it keeps the length
-  pub part_length : (s z : List X) (n : ℕ) → n ≤ length s → length z ≡ length (take n s) → length (z ++ drop n s) ≡ length s
-  part_length s z n h e =
-      let l : length (take n s) ≡ n = simp length-take (omega arith) in
-      omega (arith, length-append z (drop n s), length-drop n s)

@@ -10,26 +10,23 @@ use lib.ListN.{length, length-append}
 use lib.Ieee.{Float}
 use borrow.Author.Tests.{lt-ltb, leb-true}
 use Rattle.priors.specs.Rows.{Row, keys, Ascends}
-use Rattle.priors.proofs.Ranks.{Bytes}
 use Rattle.entries.specs.Limits.{max_count}
 use Rattle.entries.specs.Entries.{rows, Rewritten, CountsUpTo}
 use Rattle.book.specs.Path.{Steps, path_of, whole_path, listed_keys, counted_keys}
 use Rattle.book.specs.Form.{capacity, book_fits, formed}
 use Rattle.book.specs.Changes.{EndingsListed, change_all, touch_all, bump_all, add_rows}
 use Rattle.book.specs.Recount.{enter_all, listing, rows_of, window_part, sequence_length}
-use Rattle.book.specs.Figures.{All}
-use Rattle.book.specs.Claims.{open_refusal, add_refusal, joined}
+use Rattle.book.specs.Figures.{Ranks, Whole}
+use Rattle.book.specs.Claims.{open_refusal, add_refusal}
 use Rattle.book.specs.Batches.{path_in}
 use Rattle.book.proofs.Passes.{leaving_path}
 use Rattle.book.proofs.Window.{window_drop}
-use Rattle.entries.proofs.EntryLaws.{length_rows}
-use Rattle.book.proofs.Image.{ascends_rows}
 use Rattle.book.proofs.Step.{rows_step}
 use Rattle.book.proofs.BookImage.{length_image, length_listing, formed_image}
 use Rattle.book.proofs.FormLaws.{formed_counts}
 use Rattle.book.proofs.EndingLaws.{formed_endings}
 use Rattle.book.proofs.RefusalLaws.{book_fits_lem, path_fits}
-use Rattle.book.proofs.Kept.{Sizes, Kept, open_sizes, add_taken, kept_joined}
+use Rattle.book.proofs.Kept.{Sizes, Taken, open_sizes, add_taken, path_whole, all_snoc}
 use Rattle.priors.specs.Tables.{tables_refusal}
 use Rattle.priors.specs.Priors.{layer_of, priors_refusal}
 use Rattle.baseline.specs.Limits.{max_paths}
@@ -43,12 +40,6 @@ use Rattle.baseline.specs.Training.{Lent, Until, recorded, recount_stats}
 use Rattle.baseline.specs.declared.training.Training.{Training}
 use Rattle.baseline.specs.Courses.{lent_in, paths_of, recount_of, Holds, path_number, sampled, book_stats, one_path}
 use Rattle.baseline.proofs.CourseLaws.{added_path}
-
--- ---- bytes
-
-pub bytes_all : (s : List ℕ) → Bytes s → All (λ b. b < 256) s
-bytes_all [] bytes = tt
-bytes_all (b ∷ s) bytes = (omega (arith, bytes 0), bytes_all s (λ i. bytes (suc i)))
 
 -- ---- what is held
 
@@ -67,23 +58,8 @@ unfolding open_refusal
 sizes_fit book h = open_sizes 0 (length book) 0 (rw (sym (book_fits_lem book) ∙ h))
 
 module _ (sequences : List ℕ) (first i : ℕ) (few : i ≤ max_paths) (book : List ℕ) (used : ℕ) (h : Holds sequences first i book used) where
-  pub kept : Kept (recount_of sequences first i (length book))
-  kept =
-      let used-is : used ≡ length (listing (paths_of sequences first i)) = sym (length_rows book used) ∙ ap length h.rows_are ∙ length_image 0 (paths_of sequences first i) (paths_of sequences first i) in
-      record {
-        sizes = sizes_fit book h.book_sized;
-        listed_le = omega (arith, h.used_fit);
-        early = zero-le;
-        paths_le = omega (arith, length_paths sequences first i);
-        whole = h.whole;
-        ranks = h.ranks;
-      }
-
   pub few_entries : used ≤ 16384
   few_entries = let s = sizes_fit book h.book_sized in omega (arith, h.used_fit)
-
-  pub held_ascends : Ascends 0 (keys (rows book used))
-  held_ascends = rw h.rows_are (ascends_rows 0 (paths_of sequences first i) (paths_of sequences first i))
 
   pub held_formed : formed (rows book used) ≡ true
   held_formed = rw h.rows_are (formed_image 0 (paths_of sequences first i) (paths_of sequences first i) h.whole (omega (arith, length_paths sequences first i)) h.ranks)
@@ -123,31 +99,34 @@ module _ (sequences : List ℕ) (first i : ℕ) (few : i ≤ max_paths) (book : 
           let l : length (touch_all (listed_keys (path_of (path_in sequences (first + i)))) (rows book used)) ≤ length book / 24 = leb-true _ _ (sym room-is ∙ fits) in
           omega arith
 
-      pub held_next : (bytes : All (λ b. b < 256) (path_in sequences (first + i))) (after : List ℕ) (n : ℕ) → length after ≡ length book
+      pub held_next : Ranks (path_of (path_in sequences (first + i))) → (after : List ℕ) (n : ℕ) → length after ≡ length book
           → Rewritten book after n (bump_all (counted_keys (path_of (path_in sequences (first + i)))) (touch_all (listed_keys (path_of (path_in sequences (first + i)))) (rows book used)))
           → Holds sequences first (suc i) after n
       unfolding paths_of add_rows leaving_path change_all
-      held_next bytes after n same w =
+      held_next ranks after n same w =
           let p : Steps = path_of (path_in sequences (first + i)) in
           let paths : List Steps = paths_of sequences first i in
           let rows_next : bump_all (counted_keys p) (touch_all (listed_keys p) (rows book used)) ≡ rows_of 0 (paths ++ p ∷ []) (paths ++ p ∷ []) =
           ap (λ (rs : List Row). bump_all (counted_keys p) (touch_all (listed_keys p) rs)) h.rows_are ∙ sym (rows_step 0 paths paths (window_drop 0 paths) p) in
-          let k : Kept (joined (recount_of sequences first i (length book)) p) =
-          kept_joined (recount_of sequences first i (length book)) (path_in sequences (first + i)) kept bytes
-          (add_taken (recount_of sequences first i (length book)) (path_in sequences (first + i)) taken) in
+          let t : Taken (recount_of sequences first i (length book)) (path_in sequences (first + i)) = add_taken (recount_of sequences first i (length book)) (path_in sequences (first + i)) taken in
           let n-is : n ≡ length (listing (paths ++ p ∷ [])) = w.number_is ∙ ap length rows_next ∙ length_image 0 (paths ++ p ∷ []) (paths ++ p ∷ []) in
           record {
             book_sized = fits_same book after same h.book_sized;
-            used_fit = omega (arith, k.listed_le);
+            used_fit = omega (arith, room_fits, listed_is);
             rows_are = w.rows_are ∙ rows_next;
-            whole = k.whole;
-            ranks = k.ranks;
+            whole = all_snoc Whole paths p h.whole (path_whole (path_in sequences (first + i)) t.steps_some t.steps_le);
+            ranks = all_snoc Ranks paths p h.ranks ranks;
           }
 
 -- in no entries a book holds no path
 pub held_none : (sequences : List ℕ) (first : ℕ) (book : List ℕ) → book_fits book ≡ true → Holds sequences first 0 book 0
 unfolding paths_of rows rows_of listing enter_all flat_map
 held_none sequences first book h = record { book_sized = h; used_fit = zero-le; rows_are = refl; whole = tt; ranks = tt }
+
+-- and they ascend
+pub none_ascend : (book : List ℕ) → Ascends 0 (keys (rows book 0))
+unfolding rows
+none_ascend book = tt
 
 -- ---- the statistics
 
@@ -158,7 +137,7 @@ pub record Accepted (x : Lent) : Type 0 where
 
 -- nor what the code holds
 pub accepted_in : (t : Training) → Accepted (lent_in t)
-accepted_in t = record { tables_fit = t.tables.passed; priors_fit = ap (priors_refusal t.priors.nodes.now t.priors.children.now) t.floored ∙ t.priors.passed }
+accepted_in t = record { tables_fit = t.by.tables.passed; priors_fit = ap (priors_refusal t.by.priors.nodes.now t.by.priors.children.now) t.floored ∙ t.by.priors.passed }
 
 module _ (x : Lent) (accepted : Accepted x) (first i : ℕ) (few : i ≤ max_paths) (book : List ℕ) (used : ℕ) (h : Holds x.sequences first i book used) where
   -- the recount's are those of the book's entries

@@ -18,6 +18,7 @@ use Rattle.priors.proofs.RuleLaws.{some_number}
 use Rattle.priors.proofs.Tests.{both}
 use Rattle.book.proofs.Kept.{rule_passed}
 use Rattle.book.specs.Form.{book_fits}
+use Rattle.baseline.specs.declared.training.Training.{Training}
 use Rattle.baseline.specs.Limits.{max_sequences, max_paths, max_knots}
 use Rattle.divergence.specs.Checks.{or_else}
 use Rattle.baseline.specs.Training.{Input, knot_count, input_fits, knot_room, sizes_refusal, train_refusal}
@@ -91,9 +92,6 @@ module _ (sequences : List ℕ) (s n rate : ℕ) (fits : input_fits sequences s 
   pub few_paths : n ≤ 65536
   few_paths = leb-true n 65536 (both (leb n max_paths) _ (both (leb s max_sequences) _ (both (leb 1 s) _ after_rate).1).1).0
 
-  pub few_knots : knot_count n rate ≤ 1024
-  few_knots = leb-true (knot_count n rate) 1024 (both (eqb (length sequences) (516 * (s * n))) _ (both (leb n max_paths) _ (both (leb s max_sequences) _ (both (leb 1 s) _ after_rate).1).1).1).1
-
   pub size_is : length sequences ≡ 516 * (s * n)
   size_is = eqb-true (length sequences) (516 * (s * n)) (both (eqb (length sequences) (516 * (s * n))) _ (both (leb n max_paths) _ (both (leb s max_sequences) _ (both (leb 1 s) _ after_rate).1).1).1).0
 
@@ -103,6 +101,14 @@ module _ (sequences : List ℕ) (s n rate : ℕ) (fits : input_fits sequences s 
 
   pub few_places : s * n ≤ 4194304
   few_places = let most : s * n ≤ 64 * n = mul-le-mul_right n few_sequences in omega (arith, few_paths)
+
+-- of a training that passed
+module _ (t : Training) where
+  pub rate_in : 1 ≤ t.sequences.rate
+  rate_in = rate_some t.sequences.places.now t.sequences.count t.sequences.paths t.sequences.rate t.fits
+
+  pub paths_in : t.sequences.paths ≤ 65536
+  paths_in = few_paths t.sequences.places.now t.sequences.count t.sequences.paths t.sequences.rate t.fits
 
 -- ---- what no number leaves
 
@@ -115,7 +121,6 @@ three_passed a b c h =
 -- the sizes
 pub record SizesFit (sequences : List ℕ) (s n rate : ℕ) (book : List ℕ) (have : ℕ) : Type 0 where
   pub book_sized : book_fits book ≡ true
-  pub input_held : input_fits sequences s n rate ≡ true
   pub room : knot_count n rate ≤ have
 
 pub sizes_passed : (sequences : List ℕ) (s n rate : ℕ) (book : List ℕ) (have : ℕ) → sizes_refusal sequences s n rate book have ≡ 0 → SizesFit sequences s n rate book have
@@ -124,4 +129,4 @@ sizes_passed sequences s n rate book have h =
     let first = rule_passed (book_fits book) _ 8 h in
     let second = rule_passed (input_fits sequences s n rate) _ 15 first.1 in
     let third = rule_passed (leb (knot_count n rate) have) 0 12 second.1 in
-    record { book_sized = first.0; input_held = second.0; room = leb-true (knot_count n rate) have third.0 }
+    record { book_sized = first.0; room = leb-true (knot_count n rate) have third.0 }

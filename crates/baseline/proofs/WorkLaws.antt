@@ -22,31 +22,30 @@ use Rattle.divergence.specs.Readings.{refused, answered}
 use Rattle.baseline.specs.Training.{Input, Until, stopped, reached, knot_room, sizes_refusal, train_refusal, add_all, started, knot_lengths, course, knots_of, train_asked}
 use Rattle.baseline.specs.Courses.{all_entered}
 use Rattle.priors.proofs.RuleLaws.{some_number}
-use Rattle.baseline.proofs.InputLaws.{three_passed, sizes_passed}
+use Rattle.baseline.proofs.InputLaws.{three_passed, SizesFit, sizes_passed}
 
 -- ---- what no refusal tells
-
-pub record Passed (x : Input) (book knots : List ℕ) (values : List Float) : Type 0 where
-  pub book_sized : book_fits book ≡ true
-  pub knots_fit : knots_of x ≤ length knots
-  pub values_fit : 10 * knots_of x ≤ length values
 
 room_both : (a b count : ℕ) → count ≤ min a (b / 10) → (count ≤ a) × (10 * count ≤ b)
 room_both a b count h = (omega arith, omega arith)
 
-pub passed : (x : Input) (book knots : List ℕ) (values : List Float) → train_refusal x book knots values ≡ 0 → Passed x book knots values
-unfolding train_refusal
-passed x book knots values h =
-    let numbers =
-    three_passed (tables_refusal x.lent.G x.lent.D) (priors_refusal x.lent.nodes x.lent.children (layer_of x.lent.floor))
-    (sizes_refusal x.lent.sequences x.s x.n x.lent.rate book (knot_room knots values)) h in
-    let sizes = sizes_passed x.lent.sequences x.s x.n x.lent.rate book (knot_room knots values) numbers.2 in
-    let room = room_both (length knots) (length values) (knots_of x) sizes.room in
-    record {
-      book_sized = sizes.book_sized;
-      knots_fit = room.0;
-      values_fit = room.1;
-    }
+module _ (x : Input) (book knots : List ℕ) (values : List Float) (h : train_refusal x book knots values ≡ 0) where
+  sizes : SizesFit x.lent.sequences x.s x.n x.lent.rate book (knot_room knots values)
+  unfolding train_refusal
+  sizes =
+      let numbers =
+      three_passed (tables_refusal x.lent.G x.lent.D) (priors_refusal x.lent.nodes x.lent.children (layer_of x.lent.floor))
+      (sizes_refusal x.lent.sequences x.s x.n x.lent.rate book (knot_room knots values)) h in
+      sizes_passed x.lent.sequences x.s x.n x.lent.rate book (knot_room knots values) numbers.2
+
+  pub book_passed : book_fits book ≡ true
+  book_passed = sizes.book_sized
+
+  pub knots_passed : knots_of x ≤ length knots
+  knots_passed = (room_both (length knots) (length values) (knots_of x) sizes.room).0
+
+  pub values_passed : 10 * knots_of x ≤ length values
+  values_passed = (room_both (length knots) (length values) (knots_of x) sizes.room).1
 
 -- ---- the three ways
 

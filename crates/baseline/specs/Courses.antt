@@ -28,10 +28,10 @@ use Rattle.baseline.specs.declared.training.Training.{Training}
 
 -- what the code holds of it, once tables, priors and sequences passed
 abbrev pub lent_in : Training → Lent
-lent_in t = lent_of t.tables.g.now t.tables.d.now t.priors.nodes.now t.priors.children.now (floor_of t.priors.layer) t.sequences.places.now t.sequences.rate
+lent_in t = lent_of t.by.tables.g.now t.by.tables.d.now t.by.priors.nodes.now t.by.priors.children.now (floor_of t.by.priors.layer) t.sequences.places.now t.sequences.rate
 
 abbrev pub input_in : Training → Input
-input_in t = record { lent = lent_in t; s = t.sequences.s; n = t.sequences.n }
+input_in t = record { lent = lent_in t; s = t.sequences.count; n = t.sequences.paths }
 
 -- ---- the book
 

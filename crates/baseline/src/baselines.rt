@@ -63,7 +63,7 @@ impl Baseline<'_> {
         requires { knot_values * k + 9 < length self.now.values.now }
         ensures { result ≡ knot_figures self.now.values.now self.now.sequences k }
     {
-        to_mean_var(sums_at(self.values, k), self.sequences as f64)
+        to_mean_var(sums_at(self.values, k), f64::from(self.sequences))
     }
 
     // On the line through the knots numbered k and k + 1.

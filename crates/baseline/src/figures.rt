@@ -64,7 +64,7 @@ pub(crate) fn weight(i: u32, left: u32, right: u32) -> f64
     requires { (left ≤ i) × (left < right) }
     ensures { result ≡ weight_of i left right }
 {
-    (i - left) as f64 / (right - left) as f64
+    f64::from(i - left) / f64::from(right - left)
 }
 
 pub(crate) fn no_figures() -> KLDivergenceBaselineStats

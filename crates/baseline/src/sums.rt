@@ -6,7 +6,7 @@ ghost use Rattle.baseline.specs.Limits.{knot_values};
 ghost use Rattle.baseline.specs.Sums.{with_value, with_number, added as added_of, pair_at, sums_at, put_pair, put_sums};
 
 use crate::five::Five;
-use divergence::statistics::KLDivergenceStats;
+use divergence::statistics::Tally;
 
 // Values of a knot.
 pub const KNOT_VALUES: usize = 10;
@@ -29,7 +29,7 @@ impl SumPair {
         }
     }
 
-    // The number's square is whole before it is made a float.
+    // The number's square is whole before it is made a float, which a u64 is by `as` alone.
     fn with_number(self, n: u64) -> Self
         requires { n ≤ max_entries }
         ensures { result ≡ with_number self n }
@@ -42,13 +42,12 @@ impl SumPair {
 }
 
 impl KnotSums {
-    // One more record. A book has at most 16,384 entries, so no more divergences are counted. Figure by figure: the
-    // number alone is whole.
+    // One more record. Figure by figure: the number alone is whole.
     #[tactic(auto, unfolding(crate::specs::Sums::added))]
-    fn added(self, stats: &KLDivergenceStats) -> Self
-        requires { stats.now.nz_count ≤ max_entries }
-        ensures { result ≡ added_of self stats.now }
+    fn added(self, more: &Tally) -> Self
+        ensures { result ≡ added_of self more.now.stats }
     {
+        let stats = more.stats;
         Five {
             max: self.max.with_value(stats.max),
             min: self.min.with_value(stats.min),
@@ -58,12 +57,11 @@ impl KnotSums {
         }
     }
 
-    // The same in place.
-    fn add(&mut self, stats: &KLDivergenceStats)
-        requires { stats.now.nz_count ≤ max_entries }
-        ensures { self.new ≡ added_of self.old stats.now }
+    // The same in place: document 01 names it, a thin function over the one by value.
+    fn add(&mut self, more: &Tally)
+        ensures { self.new ≡ added_of self.old more.now.stats }
     {
-        *self = self.added(stats);
+        *self = self.added(more);
     }
 }
 
@@ -102,6 +100,7 @@ pub(crate) fn sums_at(values: &[f64], k: usize) -> KnotSums
     }
 }
 
+// As sums_at reads them.
 #[tactic(auto, unfolding(crate::specs::Sums::put_sums))]
 fn put_sums(values: &mut [f64], k: usize, sums: KnotSums)
     requires { knot_values * k + 9 < length values.old }
@@ -116,12 +115,11 @@ fn put_sums(values: &mut [f64], k: usize, sums: KnotSums)
 }
 
 // One more record at the knot numbered k.
-pub(crate) fn add_at(values: &mut [f64], k: usize, stats: &KLDivergenceStats)
-    requires k_in_bounds { knot_values * k + 9 < length values.old }
-    requires nz_count_bound { stats.now.nz_count ≤ max_entries }
-    ensures { values.new ≡ put_sums values.old k (added_of (sums_at values.old k) stats.now) }
+pub(crate) fn add_at(values: &mut [f64], k: usize, more: &Tally)
+    requires { knot_values * k + 9 < length values.old }
+    ensures { values.new ≡ put_sums values.old k (added_of (sums_at values.old k) more.now.stats) }
 {
     let mut sums = sums_at(values, k);
-    sums.add(stats);
+    sums.add(more);
     put_sums(values, k, sums);
 }

@@ -1,5 +1,5 @@
 -- A list of paths, place after place: one more that is taken, one that is refused, and the end; and what two such lists have in common, step by step. Assumes nothing.
-use mathlib.Core.Path.{◌≡◌, refl, sym, ap, ◌∙◌}
+use mathlib.Core.Path.{◌≡◌, refl, sym, ap, ◌∙◌, subst}
 use mathlib.Core.Logic.{⊎_elim}
 use mathlib.Core.Bool.{Bool, true, false, cond}
 use Prim.Native.Nat.{ℕ, zero, suc, ◌+◌, ◌*◌, ◌/◌, ◌%◌, ◌≤◌, ◌<◌, min}
@@ -9,14 +9,20 @@ use native.Mathlib.Omega.{arith}
 use mathlib.Core.List.{List, []}
 use lib.Dec.{leb}
 use lib.ListN.{length, take, drop}
+use Rattle.std.specs.Prelude.{Result, Ok, Err, MatchResult, if◌then◌else◌}
 use Rattle.priors.specs.Word.{word}
+use Rattle.priors.specs.declared.refusals.Reason.{Reason}
+use Rattle.priors.specs.Refusals.{reason_number, checked_number}
+use Rattle.priors.proofs.RuleLaws.{reason_some}
 use Rattle.book.specs.declared.trackers.Tracker.{Tracker}
+use Rattle.book.specs.declared.trackers.Stopped.{Stopped}
 use Rattle.book.specs.Form.{in_form}
 use Rattle.book.specs.Figures.{All}
 use Rattle.book.specs.Calls.{Machine, unless_refused, state_after, book_after, queue_with}
-use Rattle.book.specs.Batches.{Batched, path_in, lent_path, places_in, tried, nothing_tried, batched, next_number, with_path, batch_of, batch_told, batch_answer}
+use Rattle.book.specs.Batches.{Batched, path_in, lent_path, places_in, tried, nothing_tried, batched, next_number, with_path, batch_of, batch_told, batch_answer, batched_answer}
 use Rattle.book.specs.Adding.{Gone}
 use Rattle.book.proofs.Window.{all_take, all_drop}
+use Rattle.book.proofs.CallLaws.{passes, fails}
 use Rattle.book.proofs.GoingLaws.{machine}
 
 -- ---- lent places
@@ -197,3 +203,43 @@ module _ (t : Tracker) (book queue places : List ℕ) where
       → batch_told b ≡ batch_answer t book queue places
   unfolding batch_of
   batch_formed e b h = rw (e, h)
+
+-- ---- what the code tells of it
+
+-- a list of paths stops at this reason, with so many taken
+abbrev pub stopped : Tracker → ℕ → Reason → Stopped
+stopped t n r = record { reason = r; taken = record { tracker = t; paths = n } }
+
+pub goes_on : {X : Type 0} (P : X → Type 0) (a : Result X Reason) → MatchResult a P (λ r. ⊥) → checked_number a ≡ 0
+goes_on P (Ok x) h = refl
+goes_on P (Err r) h = absurd h
+
+pub formed_on : (t : Tracker) (book queue : List ℕ) {X : Type 0} (P : X → Type 0) (a : Result X Reason) → checked_number a ≡ (if in_form t book queue then 0 else 9) → MatchResult a P (λ r. ⊥) → in_form t book queue ≡ true
+formed_on t book queue P a e h = passes (in_form t book queue) 8 (sym (goes_on P a h) ∙ e)
+
+-- a refusal is no answer
+pub no_answer : {X : Type 0} (z : Stopped) (x : X) → Err z ≡ Ok x → ⊥
+no_answer z x h = subst (λ a. MatchResult a (λ y. ⊥) (λ e. Unit {0})) h tt
+
+module _ (t : Tracker) (book queue places : List ℕ) {X : Type 0} (a : Result X Reason) (z : Stopped) where
+  pub stopped_unformed : checked_number a ≡ (if in_form t book queue then 0 else 9) → MatchResult a (λ x. ⊥) (λ r. z ≡ stopped t 0 r) → batched_answer (Err z) book queue ≡ batch_answer t book queue places
+  stopped_unformed = go a
+    where
+      go : (b : Result X Reason) → checked_number b ≡ (if in_form t book queue then 0 else 9) → MatchResult b (λ x. ⊥) (λ r. z ≡ stopped t 0 r) → batched_answer (Err z) book queue ≡ batch_answer t book queue places
+      go (Ok x) e h = absurd h
+      go (Err r) e h = let f = fails (in_form t book queue) 9 r e in rw (h, f.1) (batch_unformed t book queue places f.0)
+
+  module _ (form : in_form t book queue ≡ true) (k : ℕ) (more : 516 * k < length places) (u : Tracker) (s q : List ℕ)
+      (fold : batched next_number with_path (machine t book queue) places k ≡ so_far k (machine u s q)) (u' : Tracker) (s' q' : List ℕ) where
+    pub stopped_at : Gone u s q (lent_path places k) (checked_number a) u' s' q' → MatchResult a (λ x. ⊥) (λ r. z ≡ stopped u' k r) → batched_answer (Err z) s' q' ≡ batch_answer t book queue places
+    stopped_at = go a
+      where
+        go : (b : Result X Reason) → Gone u s q (lent_path places k) (checked_number b) u' s' q' → MatchResult b (λ x. ⊥) (λ r. z ≡ stopped u' k r) → batched_answer (Err z) s' q' ≡ batch_answer t book queue places
+        go (Ok x) g h = absurd h
+        go (Err r) g h =
+            let m = reason_some r in
+            let end = batch_stopped next_number with_path (machine t book queue) places k (machine u s q) fold m.0 (sym g.number_is ∙ m.1) more in
+            let same = gone_nowhere u s q (lent_path places k) u' s' q' (reason_number r) m.0 m.1 g in
+            rw h
+            (batch_formed t book queue places form (record { number = reason_number r; taken = k; left = machine u' s' q' })
+            (end ∙ (λ i. record { number = sym m.1 i; taken = k; left = same i })))

@@ -21,8 +21,7 @@ use Rattle.priors.proofs.Ranks.{Bytes}
 use Rattle.book.specs.declared.trackers.Tracker.{Tracker}
 use Rattle.entries.specs.Limits.{max_window, max_accepted, max_count}
 use Rattle.entries.specs.Entries.{rows, bytes_of, Rewritten, CountsUpTo}
-use Rattle.book.specs.Path.{listed_keys, counted_keys, path_of, whole_path}
-use Rattle.book.specs.Figures.{Ranks}
+use Rattle.book.specs.Path.{listed_keys, counted_keys, path_of}
 use Rattle.book.specs.Form.{capacity, book_fits, queue_fits, state_fits, formed, lengths_fit, filled, in_form}
 use Rattle.book.specs.Changes.{change_all, touch_all, bump_all, fade_all, left_keys, add_rows, EndingsListed}
 use Rattle.book.specs.Calls.{add_number, add_state, add_book, add_queue, add_answer, book_after, queue_with, listed_rows, leaving, next_place, steps_at, place_bytes, rows_after}
@@ -32,7 +31,6 @@ use Rattle.book.proofs.ManyRows.{ascends_all}
 use Rattle.book.proofs.Lengths.{length_half}
 use Rattle.book.proofs.FormLaws.{formed_ascends, formed_counts, lengths_at}
 use Rattle.book.proofs.EndingLaws.{formed_endings}
-use Rattle.book.proofs.PathLaws.{bytes_drop, steps_ranks}
 use Rattle.book.proofs.StepLaws.{part_steps}
 
 -- ---- an add
@@ -166,22 +164,11 @@ module _ (t : Tracker) (queue : List ℕ) where
       pub leaves_steps : (1 ≤ word queue (next_place t)) × (word queue (next_place t) ≤ 64)
       leaves_steps = lengths_at queue (filled t) (t.accepted % t.window) leaves.lengths_hold (omega (arith, place_lt))
 
-      leaves_length : length (take (8 * word queue (next_place t)) (drop (next_place t + 4) queue)) ≡ 8 * word queue (next_place t)
-      leaves_length = simp (length-take, length-drop) (omega (arith, place_in leaves.places_fit, leaves_steps))
-
-      pub leaves_whole : whole_path (take (8 * word queue (next_place t)) (drop (next_place t + 4) queue)) ≡ true
-      unfolding whole_path
-      leaves_whole =
-          let n : ℕ = word queue (next_place t) in
-          let rest : 8 * n % 8 ≡ 0 = omega arith in
-          let steps : 8 * n / 8 ≡ n = omega arith in
-          rw (leaves_length, rest, steps, le-leb 1 n leaves_steps.0, le-leb n 64 leaves_steps.1)
+      pub leaves_some : 8 ≤ length (take (8 * word queue (next_place t)) (drop (next_place t + 4) queue))
+      leaves_some = simp (length-take, length-drop) (omega (arith, place_in leaves.places_fit, leaves_steps))
 
       pub leaves_part : path_of (take (8 * word queue (next_place t)) (drop (next_place t + 4) queue)) ≡ steps_at queue (next_place t)
       leaves_part = part_steps queue (next_place t) (omega (arith, place_in leaves.places_fit, leaves_steps))
-
-      pub leaves_ranks : Bytes queue → Ranks (path_of (take (8 * word queue (next_place t)) (drop (next_place t + 4) queue)))
-      leaves_ranks bytes = rw leaves_part (steps_ranks (drop (next_place t + 4) queue) (bytes_drop (next_place t + 4) queue bytes) (word queue (next_place t)))
 
 -- where none leaves nothing is taken away
 pub nothing_left : (t : Tracker) (queue s : List ℕ) (n : ℕ) → leaving t queue ≡ None → Rewritten s s n (fade_all (left_keys (leaving t queue)) (rows s n))

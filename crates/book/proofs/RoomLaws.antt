@@ -1,4 +1,5 @@
 -- The dry run for 12: the keys that a path lists are looked at in turn, and each that has no row and stands for the first time brings one. Assumes nothing.
+use mir.Val.{bool_byte}
 use mathlib.Core.Path.{◌≡◌, refl, sym, ap, ap₂, ◌∙◌}
 use Prim.Native.Nat.{ℕ, zero, suc, ◌+◌, ◌-◌, ◌*◌, ◌^◌, ◌≤◌, ◌<◌}
 use native.Mathlib.Numerals.{add-one}
@@ -71,20 +72,12 @@ module _ (rs : List Row) (ks : List ℕ) (j i : ℕ) where
   pub found_brings : find_in rs (get_or ks j 0) ≡ Ok i → 0 ≡ brings rs ks j
   found_brings e = rw (found_holds rs (get_or ks j 0) i e)
 
-  module _ (missing : find_in rs (get_or ks j 0) ≡ Err i) (t : Bool) (test : t ≡ not (eqb (occurrences (get_or ks j 0) (take j ks)) 0)) where
-    again : (b : Bool) → t ≡ not b → t ≡ true → b ≡ false
-    again true e h = let z : ◌≡◌ {A = ℕ} 0 1 = cc in absurd (omega arith)
-    again false e h = refl
-
-    first_time : (b : Bool) → t ≡ not b → t ≡ false → b ≡ true
-    first_time true e h = refl
-    first_time false e h = let z : ◌≡◌ {A = ℕ} 0 1 = cc in absurd (omega arith)
-
-    pub again_brings : t ≡ true → 0 ≡ brings rs ks j
-    again_brings h = rw (missing_holds rs (get_or ks j 0) i missing, again (eqb (occurrences (get_or ks j 0) (take j ks)) 0) test h)
-
-    pub new_brings : t ≡ false → 1 ≡ brings rs ks j
-    new_brings h = rw (missing_holds rs (get_or ks j 0) i missing, first_time (eqb (occurrences (get_or ks j 0) (take j ks)) 0) test h)
+  pub missing_brings : find_in rs (get_or ks j 0) ≡ Err i → (t : Bool) → t ≡ not (eqb (occurrences (get_or ks j 0) (take j ks)) 0) → bool_byte (not t) ≡ brings rs ks j
+  missing_brings missing t test = rw (missing_holds rs (get_or ks j 0) i missing, test) (go (eqb (occurrences (get_or ks j 0) (take j ks)) 0))
+    where
+      go : (b : Bool) → bool_byte (not (not b)) ≡ cond b 1 0
+      go true = refl
+      go false = refl
 
 pub brings_at_most : (rs : List Row) (ks : List ℕ) (j : ℕ) → brings rs ks j ≤ 1
 brings_at_most rs ks j = go (not (holds rs (place rs (get_or ks j 0)) (get_or ks j 0)) && eqb (occurrences (get_or ks j 0) (take j ks)) 0)

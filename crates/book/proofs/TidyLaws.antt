@@ -2,29 +2,32 @@
 -- the places not yet passed are as they were. Assumes nothing.
 use mathlib.Core.Path.{◌≡◌, refl, sym, ap, ap₂, ◌∙◌}
 use Prim.Native.Nat.{ℕ, zero, suc, ◌+◌, ◌-◌, ◌*◌, ◌/◌, ◌≤◌, ◌<◌}
+use native.Mathlib.Nat.{add-zero}
 use native.Mathlib.Omega.{arith}
 use mathlib.Core.List.{List, [], ◌∷◌, ◌++◌, append_assoc, append-nil}
 use mathlib.Core.Bool.{true, false}
 use lib.Dec.{ltb}
-use lib.ListN.{length, take, drop, length-append, length-take, length-drop, take-append-drop, drop_of_length-le}
-use Rattle.std.proofs.lemmas.List.{take-append-le}
+use lib.ListN.{length, take, drop, get_or, get_or-append, length-append, length-take, length-drop, drop_of_length-le}
+use Rattle.std.proofs.lemmas.List.{take-append-le, get_or_past, get_or-append-add}
+use Rattle.std.proofs.lemmas.Bool.{cases_lt}
+use mathlib.Core.Logic.{◌⊎◌, inl, inr}
+use mir.Val.{Fits}
+use Rattle.std.specs.Int.{w8}
 use lib.Seq.{drop-drop, drop_at, length-take-le, take_all}
 use borrow.Author.Tests.{eq-eqb, ne_eqb, lt-ltb}
-use Rattle.priors.specs.Word.{word, store}
+use Rattle.priors.specs.Word.{word}
 use Rattle.priors.specs.Address.{rank_at}
-use Rattle.priors.specs.Rows.{Row, row}
-use Rattle.entries.specs.declared.keys.Key.{Key}
-use Rattle.entries.specs.Keys.{node_of, kind_of, key_value}
-use Rattle.entries.specs.Entries.{fields_at, key_at, row_at, rows, row_bytes, bytes_of}
+use Rattle.priors.specs.Rows.{Row}
+use Rattle.entries.specs.Keys.{node_of, kind_of}
+use Rattle.entries.specs.Entries.{key_at, row_at, rows, bytes_of}
 use Rattle.book.specs.Form.{formed}
 use Rattle.book.specs.Calls.{zeros, book_of}
 use Rattle.book.specs.Tidy.{kept}
 use Rattle.book.specs.Ahead.{counts_ahead, first_stays, kept_ahead, rows_in, rows_from, Moved}
 use Rattle.priors.proofs.Ranks.{Bytes, word_lt, rank_at_lt}
 use Rattle.entries.proofs.KeyLaws.{key_node, key_kind}
-use Rattle.entries.proofs.EntryLaws.{row_drop, length_rows, rows_append, rows_front, rows_cons, length-row_bytes, length_bytes_of, bytes_of_rows, InRange}
-use Rattle.book.proofs.FormLaws.{row_read, rows_take}
-use Rattle.entries.proofs.BookLaws.{key_in_range}
+use Rattle.entries.proofs.EntryLaws.{row_drop, row_front, length_rows, rows_append, rows_front, length_bytes_of, bytes_of_rows}
+use Rattle.book.proofs.FormLaws.{rows_take}
 use Rattle.book.proofs.AheadLaws.{kept_ahead_lem}
 
 -- ---- the row at a place
@@ -79,28 +82,45 @@ above_none n h = lt-ltb 0 n (omega arith)
 
 -- ---- whether some entry of a node counts
 
-module _ (s : List ℕ) (bytes : Bytes s) (node : ℕ) where
-  pub ahead_start : counts_ahead node (rows_in s) ≡ counts_ahead node (rows_from s (length s / 24) 0)
-  ahead_start = ap (counts_ahead node) (sym (rows_all s))
+-- an entry and the bytes behind it
+rows_cut : (e t : List ℕ) → length e ≡ 24 → rows_in (e ++ t) ≡ row_at e 0 ∷ rows_in t
+unfolding rows
+rows_cut e t size =
+    let n-is : length (e ++ t) / 24 ≡ suc (length t / 24) = omega (arith, length-append e t) in
+    ap (rows (e ++ t)) n-is ∙ ap₂ (λ (r : Row) (l : List Row). r ∷ l) (row_front e t 0 (omega arith)) (ap (λ (l : List ℕ). rows l (length t / 24)) (drop_at e t 24 size))
 
-  module _ (j : ℕ) (so_far : counts_ahead node (rows_in s) ≡ counts_ahead node (rows_from s (length s / 24) j)) where
-    module _ (more : j < length s / 24) where
-      pub ahead_other : (rank_at s (24 * j) ≡ node → ⊥) → false ≡ counts_ahead node (rows_in s)
-      unfolding counts_ahead
-      ahead_other d = sym (so_far ∙ rw (rows_from_lem s (length s / 24) j more, row_node s bytes (24 * j), ne_eqb (rank_at s (24 * j)) node d))
+pub bytes_behind : (rest e t : List ℕ) → Bytes rest → rest ≡ e ++ t → Bytes t
+bytes_behind rest e t all cut i = rw (get_or-append-add e t i 0) at (rw cut at (all (length e + i)))
 
-      module _ (same : rank_at s (24 * j) ≡ node) where
-        pub ahead_counts : (word s (24 * j + 20) ≡ 0 → ⊥) → true ≡ counts_ahead node (rows_in s)
-        unfolding counts_ahead
-        ahead_counts d = sym (so_far ∙ rw (rows_from_lem s (length s / 24) j more, row_node s bytes (24 * j), eq-eqb (rank_at s (24 * j)) node same, row_count s (24 * j), above_none (word s (24 * j + 20)) d))
+module _ (s : List ℕ) (node : ℕ) where
+  -- the entries from here on tell, and here they begin with e
+  module _ (rest e t : List ℕ) (all : Bytes rest) (so_far : counts_ahead node (rows_in s) ≡ counts_ahead node (rows_in rest)) (cut : rest ≡ e ++ t) (size : length e ≡ 24) where
+    bytes : Bytes e
+    bytes i = go (cases_lt i (length e))
+      where
+        go : (i < length e) ⊎ (length e ≤ i) → Fits w8 (get_or e i 0)
+        go (inl l) = rw (get_or-append e t 0 i l) at (rw cut at (all i))
+        go (inr h) = rw (get_or_past e i 0 h) (record { fits = omega arith })
 
-        pub ahead_on : word s (24 * j + 20) ≡ 0 → counts_ahead node (rows_in s) ≡ counts_ahead node (rows_from s (length s / 24) (j + 1))
-        unfolding counts_ahead
-        ahead_on z = so_far ∙ rw (rows_from_lem s (length s / 24) j more, row_node s bytes (24 * j), eq-eqb (rank_at s (24 * j)) node same, row_count s (24 * j), z)
+    ahead_is : counts_ahead node (rows_in s) ≡ counts_ahead node (row_at e 0 ∷ rows_in t)
+    ahead_is = so_far ∙ ap (λ (l : List ℕ). counts_ahead node (rows_in l)) cut ∙ ap (counts_ahead node) (rows_cut e t size)
 
-    pub ahead_none : length s / 24 ≤ j → false ≡ counts_ahead node (rows_in s)
+    pub ahead_other : (rank_at e 0 ≡ node → ⊥) → false ≡ counts_ahead node (rows_in s)
     unfolding counts_ahead
-    ahead_none h = sym (so_far ∙ rw (rows_past s (length s / 24) j h))
+    ahead_other d = sym (ahead_is ∙ rw (row_node e bytes 0, ne_eqb (rank_at e 0) node d))
+
+    module _ (same : rank_at e 0 ≡ node) where
+      pub ahead_counts : (word e 20 ≡ 0 → ⊥) → true ≡ counts_ahead node (rows_in s)
+      unfolding counts_ahead
+      ahead_counts d = sym (ahead_is ∙ rw (row_node e bytes 0, eq-eqb (rank_at e 0) node same, row_count e 0, above_none (word e 20) d))
+
+      pub ahead_on : word e 20 ≡ 0 → counts_ahead node (rows_in s) ≡ counts_ahead node (rows_in t)
+      unfolding counts_ahead
+      ahead_on z = ahead_is ∙ rw (row_node e bytes 0, eq-eqb (rank_at e 0) node same, row_count e 0, z)
+
+  pub ahead_none : (rest : List ℕ) → counts_ahead node (rows_in s) ≡ counts_ahead node (rows_in rest) → length rest < 24 → false ≡ counts_ahead node (rows_in s)
+  unfolding counts_ahead rows
+  ahead_none rest so_far h = let z : length rest / 24 ≡ 0 = omega arith in sym (so_far ∙ ap (λ (n : ℕ). counts_ahead node (rows rest n)) z)
 
 -- ---- whether the first entry stays
 
@@ -123,48 +143,33 @@ module _ (s : List ℕ) (bytes : Bytes s) (some : 24 ≤ length s) where
 
 -- ---- a move
 
-pub unmoved : (s : List ℕ) (from to : ℕ) → from ≤ to → to ≤ from → Moved s s from to
-unmoved s from to h k =
-    let q : to ≡ from = omega arith in
-    let n : to + 1 ≡ suc to = omega arith in
-    record { rows_are = ap (rows s) n ∙ rows_snoc s to ∙ ap (λ (i : ℕ). rows s to ++ row_at s (24 * i) ∷ []) q; rest_is = refl }
-
-module _ (s : List ℕ) (bytes : Bytes s) (from to : ℕ) (k : Key) (count : ℕ) (fits : 24 * to + 24 ≤ length s) (key-is : k ≡ fields_at s (24 * from)) (count-is : count ≡ word s (24 * from + 20)) where
-  p : List ℕ
+module _ (s : List ℕ) (from to : ℕ) (low : to ≤ from) (fits : 24 * from + 24 ≤ length s) where
+  abbrev p : List ℕ
   p = take (24 * to) s
 
-  q : List ℕ
+  abbrev e : List ℕ
+  e = take 24 (drop (24 * from) s)
+
+  abbrev q : List ℕ
   q = drop (24 * to + 24) s
 
   length_p : length p ≡ 24 * to
-  unfolding p
   length_p = length-take-le (24 * to) s (omega arith)
 
-  range : InRange (row (key_value k) count)
-  range =
-      let a : ℕ = 24 * from in
-      let node : k.node ≡ rank_at s a = ap (λ (x : Key). x.node) key-is in
-      let kind : k.kind ≡ word s (a + 8) = ap (λ (x : Key). x.kind) key-is in
-      let child : k.child ≡ rank_at s (a + 12) = ap (λ (x : Key). x.child) key-is in
-      key_in_range k count (rw node (rank_at_lt s bytes a)) (rw kind (word_lt s bytes (a + 8))) (rw child (rank_at_lt s bytes (a + 12))) (rw count-is (word_lt s bytes (a + 20)))
+  length_e : length e ≡ 24
+  length_e = length-take-le 24 (drop (24 * from) s) (omega (arith, length-drop (24 * from) s))
 
-  pub moved : Moved s (store s (24 * to) (row_bytes (row (key_value k) count))) from to
-  unfolding store p q rows row_bytes
+  one : rows (e ++ q) 1 ≡ row_at s (24 * from) ∷ []
+  unfolding rows
+  one = rows_front e q 1 length_e ∙ rows_take (drop (24 * from) s) 1 ∙ ap (λ (r : Row). r ∷ []) (row_drop (24 * from) s 0 ∙ ap (row_at s) (add-zero (24 * from)))
+
+  pub moved : Moved s ((p ++ e) ++ q) from to
   moved =
-      let r : Row = row (key_value k) count in
       let at : 24 * (to + 1) ≡ 24 * to + 24 = omega arith in
-      let s-is : s ≡ p ++ drop (24 * to) s = sym (take-append-drop (24 * to) s) in
-      let front : rows p to ≡ rows s to = sym (ap (λ (l : List ℕ). rows l to) s-is ∙ rows_front p (drop (24 * to) s) to length_p) in
-      let len : length (p ++ row_bytes r) ≡ 24 * to + 24 = length-append p (row_bytes r) ∙ omega (arith, length_p, length-row_bytes r) in
+      let len : length (p ++ e) ≡ 24 * to + 24 = length-append p e ∙ omega (arith, length_p, length_e) in
       record {
-        rows_are =
-            rows_append p (row_bytes r ++ q) to 1 length_p
-            ∙ ap₂ (λ (x y : List Row). x ++ y) front (rows_cons r q 0 range)
-            ∙ ap (λ (x : Row). rows s to ++ x ∷ []) (sym (row_read s (24 * from) k count key-is count-is));
-        rest_is =
-            ap₂ (λ (i : ℕ) (l : List ℕ). drop i l) at (sym (append_assoc p (row_bytes r) q))
-            ∙ drop_at (p ++ row_bytes r) q (24 * to + 24) len
-            ∙ ap (λ (i : ℕ). drop i s) (sym at);
+        rows_are = ap (λ (l : List ℕ). rows l (to + 1)) (append_assoc p e q) ∙ rows_append p (e ++ q) to 1 length_p ∙ ap₂ (λ (x y : List Row). x ++ y) (rows_take s to) one;
+        rest_is = ap (λ (i : ℕ). drop i ((p ++ e) ++ q)) at ∙ drop_at (p ++ e) q (24 * to + 24) len ∙ ap (λ (i : ℕ). drop i s) (sym at);
       }
 
 -- ---- the pass

@@ -1,7 +1,9 @@
 -- How the rows of a book change where a path is added. Assumes nothing.
-use Rattle.std.specs.Prelude.{ℕ, ◌+◌, ◌-◌, List, [], ◌∷◌}
+use Rattle.std.specs.Prelude.{ℕ, ◌+◌, ◌-◌, ◌≡◌, List, [], ◌∷◌}
 use Rattle.std.specs.Prelude.{Option, None, Some}
-use Rattle.priors.specs.Rows.{Row, change}
+use mathlib.Core.HLevel.{Σ_prop_path}
+use Rattle.std.specs.Coded.{Π_prop, →_prop, Coded-set, coded_option, coded_ℕ}
+use Rattle.priors.specs.Rows.{Row, look, change}
 use Rattle.entries.specs.Keys.{end_key, node_of}
 use Rattle.book.specs.Path.{Steps, listed_keys, counted_keys}
 use Rattle.book.specs.Figures.{Listed}
@@ -35,3 +37,10 @@ add_rows p l rs = fade_all (left_keys l) (bump_all (counted_keys p) (touch_all (
 -- whatever key has a row, its node's ending has one
 abbrev pub EndingsListed : List Row → Type 0
 EndingsListed rs = (k : ℕ) → Listed k rs → Listed (end_key (node_of k)) rs
+
+-- that is a fact with one proof, so that it can stand beside a book's entries: a row has one count
+Listed-prop : (k : ℕ) (rs : List Row) → IsProp (Listed k rs)
+Listed-prop k rs u v = let same : u.0 ≡ v.0 = cc in Σ_prop_path (λ c. Coded-set (coded_option coded_ℕ) (look k rs) (Some c)) same
+
+pub EndingsListed-prop : (rs : List Row) → IsProp (EndingsListed rs)
+EndingsListed-prop rs = Π_prop (λ k. →_prop (Listed-prop (end_key (node_of k)) rs))

@@ -1,4 +1,5 @@
 // A path is counted: where all that it counts has entries, they count one more and nothing is new; else the room is looked at first.
+// Functions and no methods: they look up and change entries, which are of another crate, by a path.
 ghost use Rattle.std.specs.Prelude.{◌≡◌, true, ◌^◌, ◌≤◌, length};
 ghost use Rattle.entries.specs.Limits.{max_entries};
 ghost use Rattle.entries.specs.Entries.{rows, Rewritten, CountsUpTo};
@@ -14,13 +15,15 @@ use entries::hints::Hints;
 use priors::refusals::Reason;
 
 // Looks up all that a path counts. True if all of it has entries; their places are told then. They are written into a lent table: one
-// that is handed back would be copied by memcpy, and the C interface promises that the archive wants memset alone.
+// that is handed back would be copied by memcpy, and the C interface promises that the archive wants memset alone. A flag beside it is no
+// less plain than an Option of the part in use: count_at, told by that, would have its path for the contract alone.
 fn look_up(entries: &Entries, path: &Path, hints: &mut Hints, places: &mut [u16; 64]) -> bool
-    requires { entries.now.used ≤ max_entries }
+    requires { entries.now.used ≤ 2 ^ 16 }
     ensures { result ≡ true → Stand (rows entries.now.bytes.now entries.now.used) (counted_keys (path_of path.now.steps.now)) places.new }
 {
+    let steps = path.lent();
     for i in 0..path.len() {
-        match hints.place_of(entries, path.counted_key(i)) {
+        match hints.place_of(entries, steps.counted_key(i)) {
             Some(place) => places[i] = place as u16,
             None => return false,
         }
@@ -29,6 +32,7 @@ fn look_up(entries: &Entries, path: &Path, hints: &mut Hints, places: &mut [u16;
 }
 
 // All that a path counts stands at these places: each counts one more.
+// Clauses and no type, as in count_path.
 fn count_at(entries: &mut EntriesMut, path: &Path, places: &[u16; 64])
     requires counts_up_to { CountsUpTo (2 ^ 31) (rows entries.old.bytes.now entries.old.used) }
     requires stand { Stand (rows entries.old.bytes.now entries.old.used) (counted_keys (path_of path.now.steps.now)) places.now }
@@ -44,6 +48,7 @@ fn count_at(entries: &mut EntriesMut, path: &Path, places: &[u16; 64])
 
 // Lists and counts what a path lists and counts, if there are at most `limit` entries then; else 12. The limit is the capacity, where
 // the book is one tracker's own.
+// Clauses and no type: counts rise with each path, and `insert` may leave a child without its ending, so no EntriesMut could keep them.
 pub fn count_path(
     entries: &mut EntriesMut,
     path: &Path,

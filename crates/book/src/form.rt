@@ -1,6 +1,6 @@
 // The form that each call on a tracker tests, but an opening: sizes of what is lent, the state within limits, used entries in order,
 // and the lengths of filled places. No other byte is read.
-ghost use Rattle.std.specs.Prelude.{◌≡◌, true, ◌*◌, ◌≤◌, length};
+ghost use Rattle.std.specs.Prelude.{◌≡◌, true, ◌*◌, ◌/◌, ◌%◌, ◌≤◌, ◌&&◌, eqb, leb, length};
 ghost use Rattle.priors.specs.Rows.{row};
 ghost use Rattle.entries.specs.Limits.{max_entries};
 ghost use Rattle.entries.specs.Keys.{key_value};
@@ -8,8 +8,8 @@ ghost use Rattle.entries.specs.Entries.{rows};
 ghost use Rattle.book.specs.Form.{book_fits, queue_fits, plain, follows, formed, lengths_fit, state_fits};
 
 use crate::trackers::Tracker;
-use entries::entries::{Entries, key_of};
-use entries::keys::{Key, NO_CHILD};
+use entries::entries::{Entries, LentEntries, count_of, key_of};
+use entries::keys::{CHILD, ENDING, Key, NO_CHILD};
 use entries::limits::{
     ENTRY_SIZE, MAX_ACCEPTED, MAX_COUNT, MAX_ENTRIES, MAX_STEPS, MAX_WINDOW, PLACE_SIZE,
 };
@@ -36,6 +36,22 @@ impl<'a> Listing<'a> {
             used: self.used,
         }
     }
+
+    // The same, with no form asked of them.
+    pub fn lent(&self) -> LentEntries<'a>
+        ensures bytes { result.bytes.now ≡ self.now.bytes.now }
+        ensures used { result.used ≡ self.now.used }
+    {
+        self.entries().lent()
+    }
+}
+
+// These bytes are whole pieces of this size: one at least, and so many at most.
+pub(crate) fn is_whole(s: &[u8], size: usize, most: usize) -> bool
+    requires { 1 ≤ size }
+    ensures { result ≡ (eqb (length s.now % size) 0 && (leb 1 (length s.now / size) && leb (length s.now / size) most)) }
+{
+    s.len() % size == 0 && (1..=most).contains(&(s.len() / size))
 }
 
 // A lent book has 1 to 16,384 whole entries.
@@ -43,8 +59,7 @@ impl<'a> Listing<'a> {
 pub fn book_fits(book: &[u8]) -> bool
     ensures { result ≡ book_fits book.now }
 {
-    let n = book.len() / ENTRY_SIZE;
-    book.len() % ENTRY_SIZE == 0 && (1..=MAX_ENTRIES).contains(&n)
+    is_whole(book, ENTRY_SIZE, MAX_ENTRIES)
 }
 
 // A lent queue has a place for each path of the window.
@@ -70,16 +85,12 @@ pub(crate) fn state_fits(t: Tracker, book: &[u8]) -> bool
 fn plain(key: Key, count: u32) -> bool
     ensures { result ≡ plain (row (key_value key) count) }
 {
-    if 1 < key.kind {
-        return false;
-    }
-    if MAX_COUNT < count {
-        return false;
-    }
-    if key.kind == 1 {
-        return true;
-    }
-    key.child == NO_CHILD
+    count <= MAX_COUNT
+        && match key.kind {
+            ENDING => key.child == NO_CHILD,
+            CHILD => true,
+            _ => false,
+        }
 }
 
 // An entry with this key can stand after one with the key `last`. Its count plays no part. Field by field, test by test: with the keys' own
@@ -100,7 +111,7 @@ fn follows(last: Key, key: Key) -> bool
     if key.node < last.node {
         return false;
     }
-    key.kind == 0
+    key.kind == ENDING
 }
 
 // The used entries have the form. Each entry is read once.
@@ -113,13 +124,13 @@ pub fn entries_formed(book: &[u8], used: usize) -> bool
         return true;
     }
     let mut last = key_of(book, 0);
-    if !plain(last, read_u32(book, 20)) || last.kind != 0 {
+    if !plain(last, count_of(book, 0)) || last.kind != ENDING {
         return false;
     }
     for i in 1..used {
         let at = ENTRY_SIZE * i;
         let key = key_of(book, at);
-        if !plain(key, read_u32(book, at + 20)) || !follows(last, key) {
+        if !plain(key, count_of(book, at)) || !follows(last, key) {
             return false;
         }
         last = key;
@@ -127,7 +138,7 @@ pub fn entries_formed(book: &[u8], used: usize) -> bool
     true
 }
 
-// The first n places hold lengths of 1 to 64.
+// The first n places hold lengths of 1 to 64. By number: `chunks` would be no plainer, as there may be more than n and the last be cut off.
 pub fn lengths_fit(queue: &[u8], n: usize) -> bool
     requires { 516 * n ≤ length queue.now }
     ensures { result ≡ lengths_fit queue.now n }

@@ -1,9 +1,9 @@
 // The queue: places of 516 bytes, each a length, steps and zeros, as the C interface lends it.
+// A place is named by the byte where it begins: any byte will do, and callers have it.
 ghost use Rattle.std.specs.Prelude.{◌≡◌, ◌+◌, ◌*◌, ◌≤◌, length, take, drop};
 ghost use Rattle.priors.specs.Word.{word, store};
 ghost use Rattle.book.specs.Calls.{place_bytes};
 
-use crate::paths::Path;
 use entries::limits::{PLACE_SIZE, STEP_SIZE};
 use priors::words::{read_u32, write_u32};
 
@@ -30,15 +30,15 @@ pub fn steps_in(places: &[u8], at: usize) -> &[u8]
 }
 
 // Writes a path into the place from `at`: its length, its steps, zeros.
-#[tactic(auto, using(crate::proofs::StepLaws::path_length))]
-pub fn put_path(queue: &mut [u8], at: usize, path: &Path)
-    requires { at + 516 ≤ length queue.old }
-    ensures { queue.new ≡ store queue.old at (place_bytes path.now.steps.now) }
+pub fn put_path(queue: &mut [u8], at: usize, steps: &[u8])
+    requires at_in_bounds { at + 516 ≤ length queue.old }
+    requires few { length steps.now ≤ 512 }
+    ensures { queue.new ≡ store queue.old at (place_bytes steps.now) }
 {
-    write_u32(queue, at, path.len() as u32);
+    write_u32(queue, at, (steps.len() / STEP_SIZE) as u32);
     let from = at + 4;
-    let to = from + path.steps.len();
-    copy_over(&mut queue[from..to], path.steps);
+    let to = from + steps.len();
+    copy_over(&mut queue[from..to], steps);
     let end = at + PLACE_SIZE;
     queue[to..end].fill(0);
 }

@@ -7,21 +7,20 @@ ghost use Rattle.book.specs.Calls.{book_of};
 ghost use Rattle.book.specs.Tidy.{kept};
 ghost use Rattle.book.specs.Ahead.{counts_ahead, first_stays, kept_ahead, rows_in, Moved};
 
-use entries::entries::{key_of, put_entry};
+use entries::entries::{count_of, kind_of};
+use entries::keys::ENDING;
 use entries::limits::ENTRY_SIZE;
 use priors::addresses::rank_at;
-use priors::words::read_u32;
 
 // Of the entries up to the first of another node, some counts.
 fn counts_ahead(entries: &[u8], node: u64) -> bool
     ensures { result ≡ counts_ahead node (rows_in entries.now) }
 {
-    for j in 0..entries.len() / ENTRY_SIZE {
-        let at = ENTRY_SIZE * j;
-        if rank_at(entries, at) != node {
+    for entry in entries.chunks_exact(ENTRY_SIZE) {
+        if rank_at(entry, 0) != node {
             return false;
         }
-        if read_u32(entries, at + 20) != 0 {
+        if count_of(entry, 0) != 0 {
             return true;
         }
     }
@@ -33,24 +32,19 @@ fn first_stays(entries: &[u8]) -> bool
     requires { 24 ≤ length entries.now }
     ensures { result ≡ first_stays (rows_in entries.now) }
 {
-    if read_u32(entries, 20) != 0 {
-        return true;
-    }
-    read_u32(entries, 8) == 0 && counts_ahead(&entries[ENTRY_SIZE..], rank_at(entries, 0))
+    count_of(entries, 0) != 0
+        || kind_of(entries, 0) == ENDING
+            && counts_ahead(&entries[ENTRY_SIZE..], rank_at(entries, 0))
 }
 
-// Moves the entry at the place `from` down to the place `to`.
+// Copies the entry at the place `from` down to the place `to`. 24 bytes, written out with no call: the archive wants memset alone.
 fn move_down(entries: &mut [u8], from: usize, to: usize)
     requires to_le_from { to ≤ from }
     requires from_in_bounds { 24 * from + 24 ≤ length entries.old }
     ensures { Moved entries.old entries.new from to }
 {
-    if to < from {
-        let at = ENTRY_SIZE * from;
-        let key = key_of(entries, at);
-        let count = read_u32(entries, at + 20);
-        put_entry(entries, ENTRY_SIZE * to, key, count);
-    }
+    let at = ENTRY_SIZE * from;
+    entries.copy_within(at..at + ENTRY_SIZE, ENTRY_SIZE * to);
 }
 
 // Moves the entries that stay down to the front, in one pass. The result is their number.
@@ -58,6 +52,7 @@ fn close_gaps(entries: &mut [u8]) -> usize
     ensures upper_bound { 24 * result ≤ length entries.old }
     ensures result_after { rows entries.new result ≡ kept_ahead (rows_in entries.old) }
 {
+    // The number kept is the next place.
     let mut to = 0;
     for i in 0..entries.len() / ENTRY_SIZE {
         if first_stays(&entries[ENTRY_SIZE * i..]) {

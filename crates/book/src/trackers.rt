@@ -13,17 +13,18 @@ ghost use Rattle.book.specs.Adding.{Leaves, Going, Gone};
 
 use crate::counting::count_path;
 use crate::form::{Listing, book_fits, entries_formed, lengths_fit, queue_fits, state_fits};
-use crate::paths::{Path, take_away};
+use crate::paths::{LentSteps, Path, take_away};
 use crate::places::lent_path;
 use crate::queue::{put_path, steps_in};
 use crate::tidying::drop_zeros;
 use entries::entries::EntriesMut;
-use entries::hints::{Hints, row_of};
+use entries::hints::{Hints, TABLE, row_of};
 use entries::limits::{ENTRY_SIZE, MAX_ACCEPTED, MAX_WINDOW, PLACE_SIZE};
 use priors::refusals::Reason;
 
 #[derive(Clone, Copy, Debug, PartialEq, Eq)]
 pub struct Tracker {
+    // A window of 0 keeps every path, and no Option: the C interface lends a number.
     pub window: u32,
     pub used: u32,
     pub accepted: u32,
@@ -103,6 +104,19 @@ impl Tracker {
         })
     }
 
+    // The used entries of this tracker's book: 9 for the form.
+    fn listing<'a>(self, book: &'a [u8], queue: &'a [u8]) -> Result<Listing<'a>, Reason>
+        ensures number { checked_number result ≡ (if in_form self book.now queue.now then 0 else 9) }
+        ensures lent { IfOk result (λ l. (l.bytes.now ≡ book.now) × (l.used ≡ self.used)) }
+    {
+        let seen = Seen {
+            tracker: self,
+            book,
+            queue,
+        };
+        seen.listing()
+    }
+
     // Adds a path and takes the oldest past the window away: 9 for the form, 10 for the path, 11 and 12 where it is one too many. The
     // result is the state that it leaves; refused, the caller's own stands.
     pub fn add_path(
@@ -113,15 +127,8 @@ impl Tracker {
     ) -> Result<Tracker, Reason>
         ensures { changed_answer self result book.new queue.new ≡ add_answer self book.old queue.old path.now }
     {
-        let seen = Seen {
-            tracker: self,
-            book,
-            queue,
-        };
-        seen.listing()?;
-        let mut none = [0u16; 1];
-        let mut hints = Hints::over(&mut none);
-        self.add_going(book, queue, path, &mut hints)?;
+        self.listing(book, queue)?;
+        self.add_going(book, queue, path, &mut Hints::none())?;
         Ok(self)
     }
 
@@ -164,41 +171,42 @@ impl Tracker {
     ) -> Result<Taken, Stopped>
         ensures { batched_answer result book.new queue.new ≡ batch_answer self book.old queue.old places.now }
     {
-        let seen = Seen {
-            tracker: self,
-            book,
-            queue,
-        };
-        let listing = match seen.listing() {
-            Ok(listing) => listing,
-            Err(reason) => {
-                let taken = Taken {
-                    tracker: self,
-                    paths: 0,
-                };
-                return Err(Stopped { reason, taken });
-            }
-        };
-        let mut table = [0u16; 49168];
+        let listing = self
+            .listing(book, queue)
+            .map_err(|reason| self.stopped(reason, 0))?;
+        // There is no heap, so the table lies here.
+        let mut table = [0u16; TABLE];
         let mut hints = Hints::over(&mut table);
-        hints.note_all(&listing.entries(), places.len());
+        hints.note_all(&listing.lent(), places.len());
         let n = places.len().div_ceil(PLACE_SIZE);
         for k in 0..n {
-            if let Err(reason) = self.add_going(book, queue, lent_path(places, k), &mut hints) {
-                let taken = Taken {
-                    tracker: self,
-                    paths: k as u32,
-                };
-                return Err(Stopped { reason, taken });
-            }
+            self.add_going(book, queue, lent_path(places, k), &mut hints)
+                .map_err(|reason| self.stopped(reason, k as u32))?;
         }
-        Ok(Taken {
-            tracker: self,
-            paths: n as u32,
-        })
+        Ok(self.taken(n as u32))
     }
 
-    // Where the next path is written, and where the oldest lies once the window is full.
+    // This state, with so many paths of a list taken.
+    fn taken(self, paths: u32) -> Taken
+        ensures { result ≡ record { tracker = self; paths = paths } }
+    {
+        Taken {
+            tracker: self,
+            paths,
+        }
+    }
+
+    // A list of paths goes no further, with so many taken.
+    fn stopped(self, reason: Reason, paths: u32) -> Stopped
+        ensures { result ≡ record { reason = reason; taken = record { tracker = self; paths = paths } } }
+    {
+        Stopped {
+            reason,
+            taken: self.taken(paths),
+        }
+    }
+
+    // Where the next path is written, and where the oldest lies once the window is full. A byte: by it the queue names a place.
     fn next_place(self) -> usize
         requires { 1 ≤ self.window }
         ensures { result ≡ next_place self }
@@ -217,21 +225,21 @@ impl Tracker {
         if self.window == 0 || self.accepted < self.window {
             return;
         }
-        let path = Path {
-            steps: steps_in(queue, self.next_place()),
+        let oldest = LentSteps {
+            bytes: steps_in(queue, self.next_place()),
         };
         let row = row_of(self.window, self.accepted as usize + 1);
-        take_away(entries, &path, hints, row);
+        take_away(entries, &oldest, hints, row);
     }
 
     // Writes the path into its place, if there is a window.
-    #[tactic(auto, unfolding(crate::specs::Calls::queue_with))]
+    #[tactic(auto, using(crate::proofs::StepLaws::path_length), unfolding(crate::specs::Calls::queue_with))]
     fn keep(self, queue: &mut [u8], path: &Path)
         requires { 516 * self.window ≤ length queue.old }
         ensures { queue.new ≡ queue_with self queue.old path.now.steps.now }
     {
         if self.window != 0 {
-            put_path(queue, self.next_place(), path);
+            put_path(queue, self.next_place(), path.steps);
         }
     }
 
@@ -241,12 +249,7 @@ impl Tracker {
     pub fn tidy(mut self, book: &mut [u8], queue: &[u8]) -> Result<Tracker, Reason>
         ensures { changed_answer self result book.new queue.now ≡ tidy_answer self book.old queue.now }
     {
-        let seen = Seen {
-            tracker: self,
-            book,
-            queue,
-        };
-        seen.listing()?;
+        self.listing(book, queue)?;
         self.used = drop_zeros(book, self.used as usize) as u32;
         Ok(self)
     }

@@ -13,8 +13,6 @@ use Rattle.priors.specs.declared.refusals.NodeReason.{NodeReason}
 use Rattle.priors.specs.declared.refusals.NodeReason.TheVariants.{MissingChild, PastTable}
 use Rattle.priors.specs.Refusals.{number_of, named_node}
 use Rattle.priors.specs.declared.records.Record.{Record}
-use Rattle.priors.specs.declared.prior.Prior.{Prior}
-use Rattle.priors.specs.declared.lookups.Priors.{Priors}
 use Rattle.priors.specs.Priors.{Counts, total, records, find_record, prior_of_node, prior_of}
 use Rattle.priors.proofs.Fields.{length_store}
 use Rattle.divergence.specs.Nodes.{Node}
@@ -35,15 +33,14 @@ module _ (nodes children : List ℕ) (layer : ℕ) where
   unfolding with_prior
   priors_end = refl
 
--- a look-up tells whether there is one
-pub prior_counted : (priors : Priors) (rank : ℕ) (o : Option Prior) (b : Bool) → option_map (λ (p : Prior). p.node) o ≡ find_record priors.layer rank (records priors.nodes.now) → is_some o ≡ b
-    → has_prior (prior_of priors.nodes.now priors.children.now priors.layer rank) ≡ cond b 1 0
-unfolding prior_of
-prior_counted priors rank o b h e = ap (λ (r : Option Record). has_prior (option_map (prior_of_node priors.children.now) r)) (sym h) ∙ go o ∙ ap (λ (a : Bool). cond a 1 0) e
-  where
-    go : (o : Option Prior) → has_prior (option_map (prior_of_node priors.children.now) (option_map (λ (p : Prior). p.node) o)) ≡ cond (is_some o) 1 0
-    go None = refl
-    go (Some p) = refl
+  -- a look-up tells whether there is one
+  pub record_counted : (rank : ℕ) (o : Option Record) (b : Bool) → o ≡ find_record layer rank (records nodes) → is_some o ≡ b → has_prior (prior_of nodes children layer rank) ≡ cond b 1 0
+  unfolding prior_of
+  record_counted rank o b h e = ap (λ (r : Option Record). has_prior (option_map (prior_of_node children) r)) (sym h) ∙ go o ∙ ap (λ (a : Bool). cond a 1 0) e
+    where
+      go : (o : Option Record) → has_prior (option_map (prior_of_node children) o) ≡ cond (is_some o) 1 0
+      go None = refl
+      go (Some p) = refl
 
 -- ---- the first refusal
 

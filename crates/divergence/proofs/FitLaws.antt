@@ -13,6 +13,7 @@ use Rattle.priors.specs.Tables.{lengths_fit, tables_refusal}
 use Rattle.priors.specs.Priors.{Counts, total, records, find_record, prior_of, prior_of_node}
 use Rattle.priors.proofs.BelowLaws.{first_true, second_true}
 use Rattle.divergence.specs.declared.divergences.Fit.{Fit}
+use Rattle.divergence.specs.Nodes.{Node}
 use Rattle.divergence.specs.Divergence.{lacks_child, divergence, node_divergence}
 use Rattle.divergence.specs.Fits.{fit_of}
 
@@ -67,6 +68,19 @@ module _ (G D : List Float) where
       go true c = refl
       go false true = refl
       go false false = refl
+
+-- the divergence of a node, by the look-up of its prior and by its tests
+module _ (G D : List Float) (priors : Priors) (n : Node) (rank : ℕ) (is : rank ≡ n.address) where
+  pub told_none : None ≡ find_record priors.layer rank (records priors.nodes.now) → node_divergence G D (prior_of priors.nodes.now priors.children.now priors.layer n.address) n.evidence ≡ Ok None
+  told_none h =
+      ap (λ (o : Option Counts). node_divergence G D o n.evidence) (prior_none priors.nodes.now priors.children.now priors.layer n.address (sym (rw is at h))) ∙ divergence_none G D n.evidence
+
+  pub told_by : (prior : Prior) → Some prior.node ≡ find_record priors.layer rank (records priors.nodes.now) → prior.children.now ≡ priors.children.now
+      → (r : Result Fit NodeReason) → r ≡ fit_of (length G) (prior_of_node prior.children.now prior.node) n.evidence
+      → node_divergence G D (prior_of priors.nodes.now priors.children.now priors.layer n.address) n.evidence ≡ fit_divergence G D (prior_of_node prior.children.now prior.node) n.evidence r
+  told_by prior h lent r e =
+      let counts = prior_of_node prior.children.now prior.node in
+      ap (λ (o : Option Counts). node_divergence G D o n.evidence) (prior_found priors n.address prior (rw is at h) lent) ∙ divergence_some G D counts n.evidence ∙ ap (fit_divergence G D counts n.evidence) (sym e)
 
 -- what a node that fits has
 pub record Fitting (size : ℕ) (p e : Counts) (f : Fit) : Type 0 where

@@ -18,7 +18,8 @@ use Rattle.book.proofs.ListingForm.{node_end, kind_end}
 use Rattle.entries.proofs.EntryLaws.{length_rows, get_d_rows}
 use Rattle.book.proofs.FormLaws.{formed_ascends, ending_key}
 use Rattle.divergence.specs.Nodes.{child_row, spread, listed_nodes, evidence_of}
-use Rattle.divergence.specs.Parts.{part, leading, evidence_at}
+use Rattle.divergence.specs.Parts.{part, leading, node_at, evidence_at}
+use Rattle.divergence.proofs.NodeLaws.{found_node}
 use Rattle.divergence.proofs.WalkLaws.{nodes_ending, nodes_child, front_ending, front_child, front_children, end_le}
 
 -- ---- what the form says of one entry
@@ -91,7 +92,7 @@ module _ (a : ℕ) where
   listed p h (later {r} {rs} l s) = passed r rs p.0 (λ e. omega arith) ∙ listed p.1 (ascends_from 0 (suc r.key) (keys rs) (omega arith) h.1) s
 
   module _ (rs : List Row) (form : formed rs ≡ true) where
-    pub found_missing : (i : ℕ) → Err i ≡ find_in rs (end_key a) → evidence_of a (listed_nodes rs) ≡ None
+    found_missing : (i : ℕ) → Err i ≡ find_in rs (end_key a) → evidence_of a (listed_nodes rs) ≡ None
     unfolding find_in
     found_missing i e = go (holds rs (place rs (end_key a)) (end_key a)) (spot (end_key a) rs) e
       where
@@ -99,7 +100,7 @@ module _ (a : ℕ) where
         go true s e = let z : ◌≡◌ {A = ℕ} 0 1 = cc in absurd (omega arith)
         go false s e = listed (formed_plain rs form) (formed_ascends rs form) s
 
-    pub found_listed : (i : ℕ) → Ok i ≡ find_in rs (end_key a) → (i < length rs) × (evidence_of a (listed_nodes rs) ≡ Some (evidence_here rs i))
+    found_listed : (i : ℕ) → Ok i ≡ find_in rs (end_key a) → (i < length rs) × (evidence_of a (listed_nodes rs) ≡ Some (evidence_here rs i))
     unfolding find_in
     found_listed i e = go (holds rs (place rs (end_key a)) (end_key a)) (spot (end_key a) rs) e
       where
@@ -161,45 +162,72 @@ rows_drop s (suc n) (suc i) h =
     let left : n - i ≡ suc n - suc i = omega arith in
     rows_drop (drop 24 s) n i (omega arith) ∙ ap₂ rows (drop-drop (24 * i) 24 s ∙ ap (λ (k : ℕ). drop k s) at) left
 
+-- where the children of the ending at the place i end
+abbrev pub last : List ℕ → ℕ → ℕ → ℕ
+last book used i = i + 1 + leading (part book (i + 1) used)
+
 module _ (book : List ℕ) (used : ℕ) (form : formed (rows book used) ≡ true) (i : ℕ) (in_use : i < used) where
   after : drop (suc i) (rows book used) ≡ part book (i + 1) used
   after = let one : suc i ≡ i + 1 = omega arith in rw one (rows_drop book used (i + 1) (omega (arith, in_use)))
 
-  -- where its children end
-  abbrev pub last : ℕ
-  last = i + 1 + leading (part book (i + 1) used)
-
-  pub listed_end : (i < last) × (last ≤ used)
+  listed_end : (i < last book used i) × (last book used i ≤ used)
   listed_end = (omega arith, end_le book (i + 1) used (omega (arith, in_use)))
 
-  children_are : (spread (drop (suc i) (rows book used))).0 ≡ map child_row (part book (i + 1) last)
+  children_are : (spread (drop (suc i) (rows book used))).0 ≡ map child_row (part book (i + 1) (last book used i))
   children_are =
-      let count : leading (part book (i + 1) used) ≡ last - (i + 1) = omega arith in
+      let count : leading (part book (i + 1) used) ≡ last book used i - (i + 1) = omega arith in
       ap (λ (l : List Row). (spread l).0) after
       ∙ front_children (drop (24 * (i + 1)) book) (used - (i + 1))
       ∙ ap (λ (k : ℕ). map child_row (rows (drop (24 * (i + 1)) book) k)) count
 
   -- of an entry of a book that has the form: the children after it ascend
-  pub listed_ascend : Ascends 0 (keys (map child_row (part book (i + 1) last)))
+  listed_ascend : Ascends 0 (keys (map child_row (part book (i + 1) (last book used i))))
   listed_ascend = rw children_are at (ascend_after (get_or (rows book used) i blank).key 0 (drop (suc i) (rows book used)) (formed_at (rows book used) i form (omega (arith, in_use, length_rows book used))) (λ j l n z. omega arith))
 
   -- of the ending of the address a
-  pub listed_is : (a : ℕ) → Ok i ≡ find_in (rows book used) (end_key a) → evidence_of a (listed_nodes (rows book used)) ≡ Some (evidence_at book i last)
+  listed_is : (a : ℕ) → Ok i ≡ find_in (rows book used) (end_key a) → evidence_of a (listed_nodes (rows book used)) ≡ Some (evidence_at book i (last book used i))
   unfolding row_at
   listed_is a is =
-      let ending : (get_or (rows book used) i blank).count ≡ (evidence_at book i last).ending = ap (λ (r : Row). r.count) (get_d_rows book used i blank in_use) in
+      let ending : (get_or (rows book used) i blank).count ≡ (evidence_at book i (last book used i)).ending = ap (λ (r : Row). r.count) (get_d_rows book used i blank in_use) in
       (found_listed a (rows book used) form i is).1 ∙ (λ j. Some (record { ending = ending j; children = children_are j }))
-
--- an ending that is found is in use
-pub found_in_use : (book : List ℕ) (used : ℕ) → formed (rows book used) ≡ true → (a i : ℕ) → Ok i ≡ find_in (rows book used) (end_key a) → i < used
-found_in_use book used form a i is = omega (arith, length_rows book used, (found_listed a (rows book used) form i is).0)
 
 -- ---- a look-up as an option
 
-pub from_some : (r : Result ℕ ℕ) (i : ℕ) → result_ok r ≡ Some i → Ok i ≡ r
+from_some : (r : Result ℕ ℕ) (i : ℕ) → result_ok r ≡ Some i → Ok i ≡ r
 from_some (Ok j) i h = cc
 from_some (Err j) i h = let z : ◌≡◌ {A = ℕ} 0 1 = cc in absurd (omega arith)
 
-pub from_none : (r : Result ℕ ℕ) → result_ok r ≡ None → (i : ℕ) × (Err i ≡ r)
+from_none : (r : Result ℕ ℕ) → result_ok r ≡ None → (i : ℕ) × (Err i ≡ r)
 from_none (Ok j) h = let z : ◌≡◌ {A = ℕ} 0 1 = cc in absurd (omega arith)
 from_none (Err j) h = (j, refl)
+
+-- an ending that is found, and the place to which its node's children go
+pub record FoundEnding (book : List ℕ) (used a i to : ℕ) : Type 0 where
+  pub later : i < to
+  pub within : to ≤ used
+  pub node_is : node_at book i ≡ a
+  pub evidence_is : evidence_of a (listed_nodes (rows book used)) ≡ Some (evidence_at book i to)
+  pub ascend : Ascends 0 (keys (map child_row (part book (i + 1) to)))
+
+module _ (book : List ℕ) (used : ℕ) (form : formed (rows book used) ≡ true) (a : ℕ) (r : Result ℕ ℕ) (is : r ≡ find_in (rows book used) (end_key a)) where
+  module _ (i : ℕ) (h : result_ok r ≡ Some i) where
+    at : Ok i ≡ find_in (rows book used) (end_key a)
+    at = from_some r i h ∙ is
+
+    pub ending_in_use : i < used
+    ending_in_use = omega (arith, length_rows book used, (found_listed a (rows book used) form i at).0)
+
+    pub ending_found : (to : ℕ) → to ≡ last book used i → FoundEnding book used a i to
+    ending_found to e =
+        let end = listed_end book used form i ending_in_use in
+        rw e
+        (record {
+          later = end.0;
+          within = end.1;
+          node_is = found_node book used a i ending_in_use at;
+          evidence_is = listed_is book used form i ending_in_use a at;
+          ascend = listed_ascend book used form i ending_in_use;
+        })
+
+  pub ending_missing : result_ok r ≡ None → evidence_of a (listed_nodes (rows book used)) ≡ None
+  ending_missing h = let none = from_none r h in found_missing a (rows book used) form none.0 (none.1 ∙ is)

@@ -1,24 +1,45 @@
 -- Evidence that ascends is added to a prior in one pass: whichever of the two first rows has the lower key comes first, and two with the same key come as one.
 -- Then the same for a chain and the entries of a book, place by place. Assumes nothing.
-use Rattle.std.proofs.Common.{◌≡◌, true, ℕ, suc, ◌+◌, ◌-◌, ◌*◌, ◌<◌, ◌≤◌, List, [], ◌∷◌, map, length, drop, sym, refl, ap, ◌∙◌, arith}
-use Rattle.std.specs.Prelude.{Option, None, Some}
+use Rattle.std.proofs.Common.{◌≡◌, Bool, true, false, cond, ltb, eqb, ltb-true, ltb-false, eqb-true, ℕ, suc, ◌+◌, ◌-◌, ◌*◌, ◌^◌, ◌<◌, ◌≤◌, List, [], ◌∷◌, map, length, drop, sym, refl, ap, ◌∙◌, arith}
+use Rattle.std.specs.Prelude.{⊤, Option, None, Some}
+use Rattle.std.proofs.lemmas.Bool.{eqb-false}
+use Rattle.std.specs.Ordering.{nat_cmp, MatchOrdering}
+use Rattle.std.specs.declared.cmp.Ordering.{Ordering}
+use Rattle.std.specs.declared.cmp.Ordering.TheVariants.{Less, Equal, Greater}
 use lib.ListN.{length-map}
 use Rattle.priors.specs.declared.records.Record.{Record}
 use Rattle.priors.specs.Rows.{Row, row, keys, Ascends, look, change}
 use Rattle.priors.specs.Priors.{record_at, record_count, chain_of, children_of, every_child, next_link_fits}
-use Rattle.entries.specs.Limits.{entry_size}
 use Rattle.priors.proofs.ChainLaws.{next_small, rows_end, rows_step}
 use Rattle.priors.proofs.Orders.{compare_lt, compare_gt, compare_self}
 use Rattle.priors.proofs.RowLaws.{ascends_from, gained, length_change}
 use Rattle.entries.specs.Entries.{row_at}
 use Rattle.entries.proofs.EntryLaws.{length_rows}
 use Rattle.divergence.specs.declared.evidence.Child.{Child}
+use Rattle.std.specs.Iterator.{MakesProgress, item_count}
 use Rattle.divergence.specs.declared.probabilities.Merge.{Merge}
+use Rattle.divergence.specs.declared.probabilities.Merged.{Merged}
+use Rattle.divergence.specs.Merging.{children_left, merged_row}
 use Rattle.divergence.specs.Nodes.{child_row}
 use Rattle.divergence.specs.Parts.{part}
 use Rattle.divergence.specs.Probability.{with_evidence}
 use Rattle.divergence.specs.Merge.{child_entries, merged_from}
 use Rattle.divergence.proofs.NodeLaws.{part_none, part_cons}
+
+-- ---- how two ranks compare
+
+ordered : (a b : ℕ) → MatchOrdering (nat_cmp a b) (a < b) (a ≡ b) (b < a)
+ordered a b = go (ltb a b) (eqb a b) refl refl
+  where
+    go : (x y : Bool) → ltb a b ≡ x → eqb a b ≡ y → MatchOrdering (cond x Less (cond y Equal Greater)) (a < b) (a ≡ b) (b < a)
+    go true y p q = ltb-true a b p
+    go false true p q = eqb-true a b q
+    go false false p q =
+        let apart : a ≡ b → ⊥ = eqb-false a b q in
+        omega (arith, ltb-false a b p, apart)
+
+pub compared_as : (a b : ℕ) (o : Ordering) → o ≡ nat_cmp a b → MatchOrdering o (a < b) (a ≡ b) (b < a)
+compared_as a b o h = rw h (ordered a b)
 
 -- ---- rows
 
@@ -79,21 +100,35 @@ module _ (book : List ℕ) (at end : ℕ) where
 
 -- ---- the merge of a chain and entries
 
--- links rise and lead to records, and the entries are there and ascend
+-- links rise and lead to records, and the entries ascend
 pub record Mergeable (children : List ℕ) (link : ℕ) (book : List ℕ) (at end : ℕ) : Type 0 where
   pub links_rise : every_child children (next_link_fits children) ≡ true
   pub link_fits : link ≤ record_count children
   pub place_fits : at ≤ end
-  pub entries_fit : entry_size * end ≤ length book
   pub children_ascend : Ascends 0 (keys (child_entries book at end))
 
-pub merge_ready : (m : Merge) → Mergeable m.children.now m.link m.bytes.now m.at m.end
-merge_ready m = record { links_rise = m.links_rise; link_fits = m.link_fits; place_fits = m.place_fits; entries_fit = m.entries_fit; children_ascend = m.children_ascend }
+pub merge_ready : (m : Merge) → Mergeable m.children.now m.link m.entries.bytes.now m.at m.entries.used
+merge_ready m = record { links_rise = m.links_rise; link_fits = m.link_fits; place_fits = m.place_fits; children_ascend = m.children_ascend }
+
+-- the same as the merge holds it
+pub held : {children : List ℕ} {link : ℕ} {book : List ℕ} {at end : ℕ} → Mergeable children link book at end
+    → record {
+      links_rise : every_child children (next_link_fits children) ≡ true;
+      link_fits : link ≤ record_count children;
+      place_fits : at ≤ end;
+      children_ascend : Ascends 0 (keys (child_entries book at end));
+    }
+held ready = record { links_rise = ready.links_rise; link_fits = ready.link_fits; place_fits = ready.place_fits; children_ascend = ready.children_ascend }
 
 -- the first child of a merge and where it goes on
 pub record FirstMerged (children : List ℕ) (link : ℕ) (book : List ℕ) (at end : ℕ) (rank count link' at' : ℕ) : Type 0 where
   pub first_is : merged_from children link book at end ≡ row rank count ∷ merged_from children link' book at' end
   pub goes_on : Mergeable children link' book at' end
+
+-- the same with the count by another name
+pub first_as : {children : List ℕ} {link : ℕ} {book : List ℕ} {at end rank count link' at' : ℕ} → FirstMerged children link book at end rank count link' at' → (n : ℕ) → n ≡ count
+    → merged_from children link book at end ≡ row rank n ∷ merged_from children link' book at' end
+first_as first n is = rw is first.first_is
 
 module _ (children : List ℕ) (link : ℕ) (book : List ℕ) (at end : ℕ) (ready : Mergeable children link book at end) where
   -- the entry at hand, and what is asked of those after it
@@ -109,7 +144,6 @@ module _ (children : List ℕ) (link : ℕ) (book : List ℕ) (at end : ℕ) (re
       links_rise = ready.links_rise;
       link_fits = fits;
       place_fits = omega arith;
-      entries_fit = ready.entries_fit;
       children_ascend = ascends_from 0 (suc child.rank) (keys (child_entries book (at + 1) end)) (omega arith) ascend_after;
     }
 
@@ -126,7 +160,6 @@ module _ (children : List ℕ) (link : ℕ) (book : List ℕ) (at end : ℕ) (re
       links_rise = ready.links_rise;
       link_fits = next_fits;
       place_fits = ready.place_fits;
-      entries_fit = ready.entries_fit;
       children_ascend = ready.children_ascend;
     }
 
@@ -162,10 +195,12 @@ module _ (children : List ℕ) (link : ℕ) (book : List ℕ) (at end : ℕ) (re
       goes_on = after_entry left child child-is link ready.link_fits;
     }
 
-    pub same_child : child.rank ≡ prior.rank → FirstMerged children link book at end prior.rank (prior.count + child.count) prior.link (at + 1)
+    pub same_child : child.rank ≡ prior.rank → FirstMerged children link book at end child.rank (prior.count + child.count) prior.link (at + 1)
     unfolding merged_from
     same_child q = record {
-      first_is = rw (entries_are left child child-is, chain_is more prior prior-is) (both_first (row child.rank child.count) (child_entries book (at + 1) end) (ascend_after left child child-is) (row prior.rank prior.count) (children_of children prior.link) q);
+      first_is = rw (entries_are left child child-is, chain_is more prior prior-is)
+          (both_first (row child.rank child.count) (child_entries book (at + 1) end) (ascend_after left child child-is) (row prior.rank prior.count) (children_of children prior.link) q
+          ∙ ap (λ (k : ℕ). row k (prior.count + child.count) ∷ with_evidence (child_entries book (at + 1) end) (children_of children prior.link)) (sym q));
       goes_on = after_entry left child child-is prior.link (next_fits more prior prior-is);
     }
 
@@ -179,3 +214,8 @@ pub merged_few : (children : List ℕ) (link : ℕ) (book : List ℕ) (at end : 
 unfolding merged_from
 merged_few children link book at end =
     omega (arith, merged_length (child_entries book at end) (children_of children link), entries_length book at end, length-map (chain_of children link) (λ (r : Record). row r.rank r.count))
+
+-- a step gives a child and brings the merge nearer to its end
+pub given : (s t : Merge) (m : Merged) → children_left s ≡ merged_row m ∷ children_left t → m.count < 2 ^ 33
+    → record { steps : (children_left s ≡ merged_row m ∷ children_left t) × (m.count < 2 ^ 33); goes : MakesProgress {S = Merge} {A = Merged} (λ w. ⊤) (item_count children_left) s (Some m) t }
+given s t m is small = record { steps = (is, small); goes = record { on = λ f. (tt, tt, omega (arith, ap (λ (rs : List Row). length rs) is)); keeps = tt; rests = λ f. tt } }

@@ -1,15 +1,14 @@
 -- A book's entries as nodes: a part of the book by its first entry, where a node's children end, and what the nodes from a place on are. Assumes nothing.
-use Rattle.std.proofs.Common.{◌≡◌, ℕ, suc, ◌+◌, ◌-◌, ◌*◌, ◌<◌, ◌≤◌, Bool, true, false, cond, ◌&&◌, eqb, ltb, List, [], ◌∷◌, map, length, get_or, drop, sym, refl, ap, ◌∙◌, ap₂, add-zero, arith, drop-drop, eqb-true}
+use Rattle.std.proofs.Common.{◌≡◌, ℕ, suc, ◌+◌, ◌-◌, ◌*◌, ◌^◌, ◌<◌, ◌≤◌, Bool, true, false, cond, ◌&&◌, eqb, ltb, List, [], ◌∷◌, map, length, get_or, drop, sym, refl, ap, ◌∙◌, ap₂, add-zero, arith, drop-drop, eqb-true}
 use Rattle.priors.specs.Word.{word}
-use Rattle.priors.specs.Address.{rank_at}
 use Rattle.priors.specs.Rows.{Row}
 use Rattle.priors.specs.Search.{blank, place, holds}
 use Rattle.priors.specs.Priors.{count_sum, total}
 use Rattle.priors.proofs.BelowLaws.{second_true}
-use Rattle.priors.proofs.Ranks.{Bytes, word_lt, rank_at_lt}
 use Rattle.std.specs.Prelude.{Ok, Err}
-use Rattle.entries.specs.Keys.{end_key, node_of, kind_of, child_of}
-use Rattle.entries.specs.Entries.{key_at, row_at, rows, find_in}
+use Rattle.entries.specs.declared.keys.Key.{Key}
+use Rattle.entries.specs.Keys.{key_of, end_key, node_of, kind_of, child_of}
+use Rattle.entries.specs.Entries.{fields_at, key_at, row_at, rows, find_in}
 use Rattle.entries.proofs.KeyLaws.{key_node, key_kind, key_child}
 use Rattle.entries.proofs.EntryLaws.{row_drop, get_d_rows}
 use Rattle.book.proofs.ListingForm.{node_end}
@@ -34,18 +33,20 @@ part_cons book i to h =
 
 -- ---- an entry's fields
 
-module _ (book : List ℕ) (bytes : Bytes book) (a : ℕ) where
-  pub kind_here : kind_of (row_at book a).key ≡ word book (a + 8)
+-- of the key as the code reads it
+module _ (book : List ℕ) (a : ℕ) (k : Key) (is : k ≡ fields_at book a) (small : k.kind < 2 ^ 32) (ranked : k.child < 2 ^ 64) where
+  here : (row_at book a).key ≡ key_of k.node k.kind k.child
   unfolding row_at key_at
-  kind_here = key_kind (rank_at book a) (word book (a + 8)) (rank_at book (a + 12)) (word_lt book bytes (a + 8)) (rank_at_lt book bytes (a + 12))
+  here = sym (λ j. key_of (is j).node (is j).kind (is j).child)
 
-  pub node_here : node_of (row_at book a).key ≡ rank_at book a
-  unfolding row_at key_at
-  node_here = key_node (rank_at book a) (word book (a + 8)) (rank_at book (a + 12)) (word_lt book bytes (a + 8)) (rank_at_lt book bytes (a + 12))
+  pub node_here : node_of (row_at book a).key ≡ k.node
+  node_here = ap node_of here ∙ key_node k.node k.kind k.child small ranked
 
-  pub child_here : child_of (row_at book a).key ≡ rank_at book (a + 12)
-  unfolding row_at key_at
-  child_here = key_child (rank_at book a) (word book (a + 8)) (rank_at book (a + 12)) (word_lt book bytes (a + 8)) (rank_at_lt book bytes (a + 12))
+  pub kind_here : kind_of (row_at book a).key ≡ k.kind
+  kind_here = ap kind_of here ∙ key_kind k.node k.kind k.child small ranked
+
+  pub child_here : child_of (row_at book a).key ≡ k.child
+  child_here = ap child_of here ∙ key_child k.node k.kind k.child small ranked
 
 pub count_here : (book : List ℕ) (a : ℕ) → (row_at book a).count ≡ word book (a + 20)
 unfolding row_at

@@ -1,5 +1,5 @@
 -- The filling of an output, place by place: after each write, what is left to be written at the next place gives the same whole. Assumes nothing.
-use Rattle.std.proofs.Common.{◌≡◌, ℕ, suc, ◌+◌, ◌*◌, ◌≤◌, List, [], ◌∷◌, ◌++◌, length, take, drop, set, refl, ap, ◌∙◌, append_assoc, add-zero, zero-add, arith, length-append, take-append-drop, take-suc-set, drop-set-lt}
+use Rattle.std.proofs.Common.{◌≡◌, ℕ, suc, ◌+◌, ◌*◌, ◌≤◌, List, [], ◌∷◌, ◌++◌, length, take, drop, set, sym, refl, ap, ◌∙◌, append_assoc, add-zero, zero-add, arith, length-append, take-append-drop, take-suc-set, drop-set-lt}
 use mathlib.Core.List.{flat_map}
 use lib.Ieee.{Float}
 use Rattle.priors.specs.Word.{store}
@@ -29,6 +29,11 @@ module _ (addresses : List ℕ) where
   unfolding store
   addresses_end at = ap (λ (n : ℕ). take at addresses ++ drop n addresses) (add-zero at) ∙ take-append-drop at addresses
 
+  -- with nothing left they are what they were to become
+  pub addresses_full : (at : ℕ) (left whole : List ℕ) → left ≡ [] → store addresses at (flat_map address_bytes left) ≡ whole → addresses ≡ whole
+  unfolding flat_map
+  addresses_full at left whole none is = sym (addresses_end at) ∙ sym (ap (λ (rs : List ℕ). store addresses at (flat_map address_bytes rs)) none) ∙ is
+
 -- ---- figures
 
 -- the figures with these values from a place on
@@ -51,3 +56,6 @@ module _ (figures : List Float) where
   pub figures_end : (place : ℕ) → filled_from place [] figures ≡ figures
   unfolding filled_from
   figures_end place = ap (λ (n : ℕ). take place figures ++ drop n figures) (add-zero place) ∙ take-append-drop place figures
+
+  pub figures_full : (place : ℕ) (left whole : List Float) → left ≡ [] → filled_from place left figures ≡ whole → figures ≡ whole
+  figures_full place left whole none is = sym (figures_end place) ∙ sym (ap (λ (xs : List Float). filled_from place xs figures) none) ∙ is

@@ -9,10 +9,7 @@ use Rattle.priors.specs.Priors.{prior_of}
 use Rattle.entries.specs.Keys.{node_of, kind_of}
 use Rattle.entries.specs.Entries.{row_at, rows}
 use Rattle.entries.proofs.EntryLaws.{length_rows}
-use Rattle.std.specs.Prelude.{Option, None, Some, Result, Ok, Err, MatchResult}
-use Rattle.priors.specs.declared.refusals.Refusal.{Refusal}
-use Rattle.priors.specs.declared.refusals.Refusal.TheVariants.{AtNode}
-use Rattle.divergence.specs.Answers.{kl_answer}
+use Rattle.std.specs.Prelude.{Option, None, Some, Result, Ok, Err}
 use Rattle.priors.specs.declared.refusals.NodeReason.{NodeReason}
 use Rattle.priors.specs.declared.refusals.NodeReason.TheVariants.{MissingChild, PastTable}
 use Rattle.divergence.specs.declared.statistics.KLDivergenceStats.{KLDivergenceStats}
@@ -20,8 +17,9 @@ use Rattle.divergence.specs.Numbers.{tiny64}
 use Rattle.divergence.specs.Nodes.{Node, child_row, spread, listed_nodes}
 use Rattle.divergence.specs.Parts.{part, leading, node_at, evidence_at, nodes_from}
 use Rattle.divergence.specs.Divergence.{node_divergence}
-use Rattle.divergence.specs.Statistics.{Walk, stopped, walked, visited, walk, noted, counted, stats_over, no_stats}
-use Rattle.divergence.specs.Readings.{Reading, refused, answered, Statistics, stats_reading_of, divergence_reading}
+use Rattle.divergence.specs.declared.divergences.Measure.{Measure}
+use Rattle.divergence.specs.Statistics.{Walk, stopped, walked, visited, walk, walk_by, noted, counted, stats_over, no_stats}
+use Rattle.divergence.specs.Readings.{Reading, refused, answered, Statistics, stats_reading_of}
 use Rattle.divergence.proofs.NodeLaws.{part_cons, part_none, leading_le, count_here}
 
 -- ---- rows as children and nodes
@@ -227,6 +225,14 @@ module _ (G D : List Float) (nodes children : List ℕ) (layer : ℕ) where
   unfolding walk
   walk_end = refl
 
+-- the same by tables and priors that passed
+pub walk_on : (m : Measure) (n : Node) (ns left : List Node) (x : Result (Option Float) NodeReason) → left ≡ n ∷ ns
+    → divergence_of m.tables.g.now m.tables.d.now m.priors.nodes.now m.priors.children.now m.priors.layer n ≡ x → walk_by m left ≡ visited n.address x (walk_by m ns)
+walk_on m = walk_next m.tables.g.now m.tables.d.now m.priors.nodes.now m.priors.children.now m.priors.layer
+
+pub walk_over : (m : Measure) (left : List Node) → left ≡ [] → walk_by m left ≡ walked [] 0
+walk_over m left h = ap (walk_by m) h ∙ walk_end m.tables.g.now m.tables.d.now m.priors.nodes.now m.priors.children.now m.priors.layer
+
 -- ---- the statistics, node by node
 
 -- the reading that the statistics so far and the walk over the nodes still to come give
@@ -264,12 +270,3 @@ noted_le s x = go (lt tiny64 x)
     go : (b : Bool) → (cond b (counted s x) s).nz_count ≤ s.nz_count + 1
     go true = omega arith
     go false = omega arith
-
--- ---- one node's reading
-
--- the answer of a divergence whose reason is told with its node
-pub told_reading : (rank : ℕ) (x : Result (Option Float) NodeReason) (r : Result (Option Float) Refusal) → MatchResult x (λ v. r ≡ Ok v) (λ reason. (q : Refusal) × (r ≡ Err q) × (q ≡ AtNode reason (address_of rank))) → kl_answer r ≡ divergence_reading rank x
-told_reading rank (Ok (Some v)) r h = ap kl_answer h
-told_reading rank (Ok None) r h = ap kl_answer h
-told_reading rank (Err MissingChild) r h = ap kl_answer (h.1 ∙ ap Err h.2)
-told_reading rank (Err PastTable) r h = ap kl_answer (h.1 ∙ ap Err h.2)

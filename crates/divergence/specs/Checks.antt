@@ -20,10 +20,10 @@ checks_refusal t book queue nodes children layer G D = or_else (tables_refusal G
 
 -- what passed is what was lent
 pub record IsLent (seen : Seen) (tables : LentTables) (priors : LentPriors) (t : Passed) : Type 0 where
-  pub g_is : t.tables.g.now ≡ tables.g.now
-  pub d_is : t.tables.d.now ≡ tables.d.now
-  pub nodes_are : t.priors.nodes.now ≡ priors.nodes.now
-  pub children_are : t.priors.children.now ≡ priors.children.now
-  pub layer_is : t.priors.layer ≡ layer_of priors.floor
+  pub g_is : t.by.tables.g.now ≡ tables.g.now
+  pub d_is : t.by.tables.d.now ≡ tables.d.now
+  pub nodes_are : t.by.priors.nodes.now ≡ priors.nodes.now
+  pub children_are : t.by.priors.children.now ≡ priors.children.now
+  pub layer_is : t.by.priors.layer ≡ layer_of priors.floor
   pub book_is : t.listing.bytes.now ≡ seen.book.now
   pub used_is : t.listing.used ≡ seen.tracker.used

@@ -4,13 +4,10 @@ use Rattle.std.specs.Float.Ieee.{lt}
 use Rattle.priors.specs.Priors.{prior_of}
 use Rattle.priors.specs.declared.refusals.NodeReason.{NodeReason}
 use Rattle.priors.specs.declared.refusals.NodeReason.TheVariants.{MissingChild, PastTable}
-use Rattle.priors.specs.declared.tables.Tables.{Tables}
-use Rattle.priors.specs.declared.lookups.Priors.{Priors}
-use Rattle.book.specs.declared.form.Listing.{Listing}
+use Rattle.divergence.specs.declared.divergences.Measure.{Measure}
 use Rattle.divergence.specs.declared.statistics.KLDivergenceStats.{KLDivergenceStats}
 use Rattle.divergence.specs.Numbers.{fadd, fmul, zero64, tiny64, min64, max64}
 use Rattle.divergence.specs.Nodes.{Node}
-use Rattle.divergence.specs.Parts.{nodes_from}
 use Rattle.divergence.specs.Divergence.{node_divergence}
 
 -- a place of the answer: a node and its divergence
@@ -43,9 +40,9 @@ walk G D nodes children layer [] = walked [] 0
 walk G D nodes children layer (n ∷ ns) =
     visited n.address (node_divergence G D (prior_of nodes children layer n.address) n.evidence) (walk G D nodes children layer ns)
 
--- over all nodes of a listing
-abbrev pub walk_over : Tables → Priors → Listing → Walk
-walk_over t p l = walk t.g.now t.d.now p.nodes.now p.children.now p.layer (nodes_from l.bytes.now 0 l.used)
+-- by tables and priors that passed
+abbrev pub walk_by : Measure → List Node → Walk
+walk_by m ns = walk m.tables.g.now m.tables.d.now m.priors.nodes.now m.priors.children.now m.priors.layer ns
 
 -- ---- the statistics
 

@@ -35,7 +35,7 @@ impl Output<'_> {
         (self.addresses.len() / 8).min(self.figures.len())
     }
 
-    // Fills one place.
+    // Fills one place. `same_addresses` and `same_figures` say that the lent slices are the same ones: a struct of `&mut` alone doesn't.
     pub fn put(&mut self, place: usize, rank: u64, figure: f64)
         requires addresses_room { 8 * place + 8 ≤ length self.old.addresses.now }
         requires figures_room { place < length self.old.figures.now }

@@ -1,31 +1,34 @@
-// The evidence of one listed node: the entries of its node in the book. Its ending stands at a place, and its children after it up to
-// another, ascending.
-ghost use Rattle.std.specs.Prelude.{◌≡◌, ◌+◌, ◌*◌, ◌<◌, ◌≤◌, map, length};
+// The evidence of one listed node: its entries in the book. Its ending stands at a place, and its children after it up to the end of the
+// entries.
+ghost use Rattle.std.specs.Prelude.{◌≡◌, true, ◌+◌, ◌-◌, ◌*◌, ◌^◌, ◌<◌, ◌≤◌, map, min};
 ghost use Rattle.priors.specs.Rows.{row, keys, Ascends};
-ghost use Rattle.priors.specs.Priors.{count_sum};
+ghost use Rattle.priors.specs.Priors.{count_sum, total};
 ghost use Rattle.entries.specs.Limits.{max_entries};
 ghost use Rattle.entries.specs.Ascending.{Ascends-prop};
-ghost use Rattle.entries.specs.Entries.{row_at, entry_count_at};
-ghost use Rattle.divergence.specs.Nodes.{child_row};
-ghost use Rattle.divergence.specs.Parts.{part, node_at};
+ghost use Rattle.entries.specs.Entries.{row_at, rows};
+ghost use Rattle.book.specs.Form.{formed};
+ghost use Rattle.divergence.specs.Nodes.{child_row, listed_nodes, evidence_of};
+ghost use Rattle.divergence.specs.Parts.{part, leading};
 
 use crate::nodes::children_end;
-use book::form::Listing;
+use entries::entries::{Entries, LentEntries};
 use entries::keys::Key;
-use entries::limits::ENTRY_SIZE;
-use priors::addresses::{Address, rank_at};
+use priors::addresses::Address;
 use priors::refusals::{NodeReason, Refusal};
-use priors::words::read_u32;
 
+// The entries up to where the node's children end, and the place of its ending.
 #[derive(Clone, Copy)]
 pub struct Evidence<'a> {
-    pub bytes: &'a [u8],
+    pub entries: LentEntries<'a>,
     pub ending: usize,
-    pub end: usize,
-    pub ghost ending_first: { ending < end },
-    pub ghost in_bounds: { 24 * end ≤ length bytes.now },
-    pub ghost few: { end ≤ max_entries },
-    pub ghost ascending: { Ascends 0 (keys (map child_row (part bytes.now (ending + 1) end))) } by { Ascends-prop 0 (keys (map child_row (part bytes.now (ending + 1) end))) },
+    pub ghost ending_first: { ending < entries.used },
+}
+
+// Evidence that a look-up found: its children ascend.
+#[derive(Clone, Copy)]
+pub struct Listed<'a> {
+    pub evidence: Evidence<'a>,
+    pub ghost ascending: { Ascends 0 (keys (map child_row (part evidence.entries.bytes.now (evidence.ending + 1) evidence.entries.used))) } by { Ascends-prop 0 (keys (map child_row (part evidence.entries.bytes.now (evidence.ending + 1) evidence.entries.used))) },
 }
 
 // A child, and how often it was noted.
@@ -35,82 +38,87 @@ pub struct Child {
     pub count: u32,
 }
 
-// The node of the entry at the place i, by rank.
-fn node_at(book: &[u8], i: usize) -> u64
-    requires { 24 * i + 24 ≤ length book.now }
-    ensures { result ≡ node_at book.now i }
-{
-    rank_at(book, ENTRY_SIZE * i)
-}
-
 // The child in the entry at the place i.
-pub fn child_at(book: &[u8], i: usize) -> Child
-    requires { 24 * i + 24 ≤ length book.now }
-    ensures { row result.rank result.count ≡ child_row (row_at book.now (24 * i)) }
+pub fn child_at(entries: &LentEntries, i: usize) -> Child
+    requires { i < entries.now.used }
+    ensures { row result.rank result.count ≡ child_row (row_at entries.now.bytes.now (24 * i)) }
 {
-    let at = ENTRY_SIZE * i;
     Child {
-        rank: rank_at(book, at + 12),
-        count: read_u32(book, at + 20),
+        rank: entries.key(i).child,
+        count: entries.count(i),
     }
 }
 
-// The total of the counts in the entries from a place up to another.
-pub fn count_total(book: &[u8], from: usize, to: usize) -> u64
-    requires from_le_to { from ≤ to }
-    requires few { to ≤ max_entries }
-    requires in_bounds { 24 * to ≤ length book.now }
-    ensures { result ≡ count_sum (part book.now from to) }
+// The total of the counts in the entries from a place on. It stays at the greatest u64, past which no table reaches.
+pub fn count_total(entries: &LentEntries, from: usize) -> u64
+    requires { from ≤ entries.now.used }
+    ensures capped { result ≡ min (count_sum (part entries.now.bytes.now from entries.now.used)) (2 ^ 64 - 1) }
+    ensures exact { entries.now.used ≤ max_entries → result ≡ count_sum (part entries.now.bytes.now from entries.now.used) }
 {
-    let mut sum = 0;
-    for i in from..to {
-        sum += u64::from(read_u32(book, ENTRY_SIZE * i + 20));
+    let mut sum: u64 = 0;
+    for i in from..entries.used {
+        sum = sum.saturating_add(u64::from(entries.count(i)));
     }
     sum
 }
 
-impl<'a> Evidence<'a> {
-    ghost use Rattle.std.specs.Prelude.{IfSome, option_map};
-    ghost use Rattle.priors.specs.Priors.{total};
-    ghost use Rattle.priors.specs.Address.{address_of};
-    ghost use Rattle.priors.specs.declared.refusals.Refusal.TheVariants.{AtNode};
-    ghost use Rattle.entries.specs.Entries.{rows};
-    ghost use Rattle.divergence.specs.Nodes.{listed_nodes, evidence_of};
-    ghost use Rattle.divergence.specs.Listing.{listed_node};
+impl<'a> Listed<'a> {
+    ghost use Rattle.std.specs.Prelude.{IfSome};
+    ghost use Rattle.divergence.specs.Listing.{listed_node, evidence_in};
 
     // Of the address with this rank, if it is listed. The ending is found by halving.
-    pub fn find(listing: &Listing<'a>, rank: u64) -> Option<Self>
-        ensures evidence { option_map (λ e. (listed_node e).evidence) result ≡ evidence_of rank (listed_nodes (rows listing.now.bytes.now listing.now.used)) }
-        ensures address { IfSome result (λ e. (listed_node e).address ≡ rank) }
-        ensures within { IfSome result (λ e. (e.bytes.now ≡ listing.now.bytes.now) × (e.end ≤ listing.now.used)) }
+    pub fn find(entries: &Entries<'a>, rank: u64) -> Option<Self>
+        requires { formed (rows entries.now.bytes.now entries.now.used) ≡ true }
+        ensures evidence { evidence_in result ≡ evidence_of rank (listed_nodes (rows entries.now.bytes.now entries.now.used)) }
+        ensures address { IfSome result (λ l. (listed_node l.evidence).address ≡ rank) }
+        ensures within { IfSome result (λ l. (l.evidence.entries.bytes.now ≡ entries.now.bytes.now) × (l.evidence.entries.used ≤ entries.now.used)) }
     {
-        let ending = listing.entries().find(Key::ending(rank)).ok()?;
-        Some(Evidence {
-            bytes: listing.bytes,
-            ending,
-            end: children_end(listing.bytes, listing.used, ending + 1),
-        })
+        let ending = entries.find(Key::ending(rank)).ok()?;
+        let evidence = Evidence::at(entries.lent(), ending);
+        Some(Listed { evidence })
+    }
+}
+
+impl<'a> Evidence<'a> {
+    ghost use Rattle.priors.specs.Address.{address_of};
+    ghost use Rattle.priors.specs.declared.refusals.Refusal.TheVariants.{AtNode};
+    ghost use Rattle.divergence.specs.Listing.{listed_node};
+
+    // Of the node whose ending stands at a place: its children are those before the next ending.
+    pub fn at(entries: LentEntries<'a>, ending: usize) -> Self
+        requires { ending < entries.used }
+        ensures bytes { result.entries.bytes.now ≡ entries.entry.bytes.now }
+        ensures ending { result.ending ≡ ending }
+        ensures end { result.entries.used ≡ ending + 1 + leading (part entries.entry.bytes.now (ending + 1) entries.entry.used) }
+    {
+        let used = children_end(&entries, ending + 1);
+        let entries = LentEntries {
+            bytes: entries.bytes,
+            used,
+        };
+        Evidence { entries, ending }
     }
 
     // The node's address, by rank.
+    #[tactic(auto, using(crate::proofs::NodeLaws::node_here))]
     pub fn rank(&self) -> u64
         ensures { result ≡ (listed_node self.now).address }
     {
-        node_at(self.bytes, self.ending)
+        self.entries.key(self.ending).node
     }
 
     // How many paths end at the node.
     pub fn ending_count(&self) -> u32
         ensures { result ≡ (listed_node self.now).evidence.ending }
     {
-        read_u32(self.bytes, ENTRY_SIZE * self.ending + 20)
+        self.entries.count(self.ending)
     }
 
-    // The total of its counts.
+    // The total of its counts, or the greatest u64 if that is less.
     pub fn total(&self) -> u64
-        ensures { result ≡ total (listed_node self.now).evidence }
+        ensures { result ≡ min (total (listed_node self.now).evidence) (2 ^ 64 - 1) }
     {
-        count_total(self.bytes, self.ending, self.end)
+        count_total(&self.entries, self.ending)
     }
 
     // The refusal that names the node.

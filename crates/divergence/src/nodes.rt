@@ -1,78 +1,69 @@
 // A walk over the listed nodes, ascending: an ending begins a node, and the children after it are its own.
-ghost use Rattle.std.specs.Prelude.{◌≡◌, ◌==◌, ◌+◌, ◌*◌, ◌≤◌, length};
-ghost use Rattle.entries.specs.Keys.{kind_of};
-ghost use Rattle.entries.specs.Entries.{row_at};
+ghost use Rattle.std.specs.Prelude.{◌≡◌, ◌+◌, ◌≤◌};
+ghost use Rattle.entries.specs.Limits.{max_entries};
 ghost use Rattle.divergence.specs.Parts.{part, leading};
 
 use crate::evidence::Evidence;
-use book::form::Listing;
-use entries::limits::ENTRY_SIZE;
-use priors::words::read_u32;
-
-// An ending stands in the entry at the place i.
-fn is_ending(book: &[u8], i: usize) -> bool
-    requires { 24 * i + 24 ≤ length book.now }
-    ensures { result ≡ (kind_of (row_at book.now (24 * i)).key == 0) }
-{
-    read_u32(book, ENTRY_SIZE * i + 8) == 0
-}
+use entries::entries::LentEntries;
+use entries::keys::ENDING;
 
 // The first place from i on whose entry is an ending, or the end.
-// A place and no Option: it bounds the node's entries. Bytes and a number: it asks for no tested form.
-pub fn children_end(book: &[u8], used: usize, i: usize) -> usize
-    requires i_le_used { i ≤ used }
-    requires used_in_bounds { 24 * used ≤ length book.now }
-    ensures { result ≡ i + leading (part book.now i used) }
+// A place and no Option: it bounds the node's entries.
+pub fn children_end(entries: &LentEntries, i: usize) -> usize
+    requires { i ≤ entries.now.used }
+    ensures { result ≡ i + leading (part entries.now.bytes.now i entries.now.used) }
 {
-    for at in i..used {
-        if is_ending(book, at) {
+    for at in i..entries.used {
+        if entries.key(at).kind == ENDING {
             return at;
         }
     }
-    used
+    entries.used
 }
 
 // The nodes from a place on, where an ending stands unless it is the end.
 #[derive(Clone, Copy)]
 pub struct Nodes<'a> {
-    pub listing: Listing<'a>,
+    pub entries: LentEntries<'a>,
     pub place: usize,
-    pub ghost within: { place ≤ listing.used },
-    pub ghost at_ending: { leading (part listing.bytes.now place listing.used) ≡ 0 },
+    pub ghost few: { entries.used ≤ max_entries },
+    pub ghost within: { place ≤ entries.used },
+    pub ghost at_ending: { leading (part entries.bytes.now place entries.used) ≡ 0 },
 }
 
 impl<'a> Nodes<'a> {
     ghost use Rattle.divergence.specs.Parts.{nodes_from};
-    ghost use Rattle.divergence.specs.Listing.{nodes_left, first_and};
+    ghost use Rattle.divergence.specs.Listing.{nodes_left};
 
     // All listed nodes.
-    pub fn of(listing: &Listing<'a>) -> Self
-        ensures { nodes_left result ≡ nodes_from listing.now.bytes.now 0 listing.now.used }
+    pub fn of(entries: LentEntries<'a>) -> Self
+        requires { entries.used ≤ max_entries }
+        ensures { nodes_left result ≡ nodes_from entries.entry.bytes.now 0 entries.entry.used }
     {
         Nodes {
-            listing: *listing,
-            place: children_end(listing.bytes, listing.used, 0),
+            entries,
+            place: children_end(&entries, 0),
         }
     }
+}
 
-    // The first of the nodes left, with its evidence, and the walk goes on after it.
-    pub fn next(&mut self) -> Option<Evidence<'a>>
-        ensures { nodes_left self.old ≡ first_and result (nodes_left self.new) }
-    {
-        let listing = self.listing;
-        let ending = self.place;
-        if ending == listing.used {
+// Each node with its evidence.
+impl<'a> Iterator for Nodes<'a> {
+    ghost use Rattle.std.specs.Iterator.{YieldsFirstBy, item_count};
+    ghost use Rattle.divergence.specs.Listing.{listed_node, nodes_left};
+
+    type Item = Evidence<'a>;
+
+    ghost next_gives = { YieldsFirstBy listed_node nodes_left };
+
+    ghost remaining = { item_count nodes_left };
+
+    fn next(&mut self) -> Option<Evidence<'a>> {
+        if self.place == self.entries.used {
             return None;
         }
-        let end = children_end(listing.bytes, listing.used, ending + 1);
-        *self = Nodes {
-            listing,
-            place: end,
-        };
-        Some(Evidence {
-            bytes: listing.bytes,
-            ending,
-            end,
-        })
+        let node = Evidence::at(self.entries, self.place);
+        self.place = node.entries.used;
+        Some(node)
     }
 }

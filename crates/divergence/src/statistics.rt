@@ -1,16 +1,15 @@
 // The statistics of divergences strictly above 1.0e-10.
-ghost use Rattle.std.specs.Prelude.{◌≡◌, ◌+◌, ◌^◌, ◌<◌, if◌then◌else◌};
+ghost use Rattle.std.specs.Prelude.{◌≡◌, ◌+◌, ◌^◌, ◌<◌, ◌≤◌, if◌then◌else◌};
+ghost use Rattle.entries.specs.Limits.{max_entries};
 ghost use Rattle.std.specs.Float.Ieee.{lt};
-ghost use Rattle.divergence.specs.Statistics.{no_stats, counted, noted, walk_over};
-ghost use Rattle.divergence.specs.Readings.{stats_reading_of};
-ghost use Rattle.divergence.specs.Answers.{stats_answer};
+ghost use Rattle.divergence.specs.Statistics.{no_stats, counted, noted, walk_by};
+ghost use Rattle.divergence.specs.Listing.{nodes_left};
 
+use crate::divergences::Measure;
 use crate::nodes::Nodes;
-use book::form::Listing;
-use priors::lookups::Priors;
 use priors::refusals::Refusal;
-use priors::tables::Tables;
 
+// One figure is whole, so no Five.
 #[derive(Clone, Copy, Debug, PartialEq)]
 pub struct KLDivergenceStats {
     pub max: f64,
@@ -21,11 +20,12 @@ pub struct KLDivergenceStats {
     pub sequence_len: u32,
 }
 
-// The statistics so far, and the number of nodes skipped.
+// The statistics of a walk, which counts no more nodes than a book has entries, and the number of nodes skipped.
 #[derive(Clone, Copy, Debug, PartialEq)]
 pub struct Tally {
     pub stats: KLDivergenceStats,
     pub skipped: u32,
+    pub ghost few: { stats.nz_count ≤ max_entries },
 }
 
 const TINY: f64 = 1.0e-10;
@@ -44,7 +44,7 @@ fn smaller(a: f64, x: f64) -> f64
 }
 
 impl KLDivergenceStats {
-    // The statistics of no divergence.
+    // The statistics of no divergence: the least and the greatest float, as goko begins.
     fn new(sequence_len: u32) -> Self
         ensures { result ≡ no_stats sequence_len }
     {
@@ -70,7 +70,7 @@ impl KLDivergenceStats {
             nz_count: self.nz_count + 1,
             moment1_nz: self.moment1_nz + x,
             moment2_nz: self.moment2_nz + x * x,
-            sequence_len: self.sequence_len,
+            ..self
         }
     }
 
@@ -84,24 +84,23 @@ impl KLDivergenceStats {
     }
 }
 
-// The statistics over the nodes of a listing, ascending, up to the first that is refused.
-pub fn stats_of(
-    listing: &Listing,
-    priors: &Priors,
-    tables: &Tables,
-    sequence_len: u32,
-) -> Result<Tally, Refusal>
-    ensures { stats_answer result ≡ stats_reading_of sequence_len (walk_over tables.now priors.now listing.now) }
-{
-    let mut stats = KLDivergenceStats::new(sequence_len);
-    let mut skipped = 0;
-    let mut nodes = Nodes::of(listing);
-    while let Some(node) = nodes.next() {
-        match node.divergence(priors, tables) {
-            Ok(Some(x)) => stats = stats.noted(x),
-            Ok(None) => skipped += 1,
-            Err(reason) => return Err(node.refusal(reason)),
+impl Tally {
+    ghost use Rattle.divergence.specs.Readings.{stats_reading_of};
+    ghost use Rattle.divergence.specs.Answers.{stats_answer};
+
+    // Over the nodes of a walk, up to the first that is refused. No `map_err`, as in `first_stop`.
+    pub fn of(nodes: Nodes, by: &Measure, sequence_len: u32) -> Result<Self, Refusal>
+        ensures { stats_answer result ≡ stats_reading_of sequence_len (walk_by by.now (nodes_left nodes.entry)) }
+    {
+        let mut stats = KLDivergenceStats::new(sequence_len);
+        let mut skipped = 0;
+        for node in nodes {
+            match node.divergence(by) {
+                Ok(Some(x)) => stats = stats.noted(x),
+                Ok(None) => skipped += 1,
+                Err(reason) => return Err(node.refusal(reason)),
+            }
         }
+        Ok(Tally { stats, skipped })
     }
-    Ok(Tally { stats, skipped })
 }

@@ -2,7 +2,7 @@
 ghost use Rattle.std.specs.Prelude.{◌≡◌, ◌+◌, ◌<◌, length};
 ghost use Rattle.divergence.specs.Divergence.{no_sums, term, ending_term, no_less, closed};
 
-use priors::tables::Tables;
+use priors::tables::LentTables;
 
 #[derive(Clone, Copy, Debug, PartialEq)]
 pub struct Sums {
@@ -32,10 +32,11 @@ impl Sums {
     }
 
     // One more term, of a prior count a with evidence e; t is the prior total.
-    #[tactic(auto, using(crate::proofs::FitLaws::tables_alike), unfolding(crate::specs::Divergence::term))]
-    pub fn with_term(self, tables: &Tables, t: u64, a: u32, e: u32) -> Self
+    #[tactic(auto, unfolding(crate::specs::Divergence::term))]
+    pub fn with_term(self, tables: &LentTables, t: u64, a: u32, e: u32) -> Self
         requires posterior_in_bounds { e + a < length tables.now.g.now }
-        requires total_in_bounds { t < length tables.now.g.now }
+        requires prior_in_bounds { a < length tables.now.d.now }
+        requires total_in_bounds { t < length tables.now.d.now }
         ensures { result ≡ term tables.now.g.now tables.now.d.now t self a e }
     {
         let (g, d) = (tables.g, tables.d);
@@ -49,9 +50,10 @@ impl Sums {
 
     // The ending's term: with a prior singleton of 0 there is none, though the textbook's is infinite.
     #[tactic(auto, unfolding(crate::specs::Divergence::ending_term))]
-    pub fn with_ending(self, tables: &Tables, t: u64, a: u32, e: u32) -> Self
+    pub fn with_ending(self, tables: &LentTables, t: u64, a: u32, e: u32) -> Self
         requires posterior_in_bounds { e + a < length tables.now.g.now }
-        requires total_in_bounds { t < length tables.now.g.now }
+        requires prior_in_bounds { a < length tables.now.d.now }
+        requires total_in_bounds { t < length tables.now.d.now }
         ensures { result ≡ ending_term tables.now.g.now tables.now.d.now t self a e }
     {
         if 0 < a {
@@ -63,7 +65,7 @@ impl Sums {
 
     // The divergence that the sums close to, left to right; u is the total of prior and evidence.
     #[tactic(auto, unfolding(crate::specs::Divergence::closed))]
-    pub fn closed(self, tables: &Tables, t: u64, u: u64) -> f64
+    pub fn closed(self, tables: &LentTables, t: u64, u: u64) -> f64
         requires total_in_bounds { t < length tables.now.g.now }
         requires posterior_in_bounds { u < length tables.now.g.now }
         ensures { result ≡ closed tables.now.g.now t u self }

@@ -1,7 +1,7 @@
 // `prob_vector` and `evidence_prob_vector`: the probabilities of a node's children and of its ending, of prior and evidence or of
 // the evidence alone. Children fill the lent output, an address of 8 bytes and a figure each; the slice with fewer whole places is
 // what 13 tests.
-ghost use Rattle.std.specs.Prelude.{◌≡◌, ◌+◌, ◌^◌, ◌<◌, ◌≤◌, length};
+ghost use Rattle.std.specs.Prelude.{◌≡◌, ◌+◌, ◌^◌, ◌<◌, ◌≤◌, length, IfSome};
 ghost use Rattle.priors.specs.Address.{rank_of};
 ghost use Rattle.priors.specs.Limits.{max_chain};
 ghost use Rattle.priors.specs.Priors.{lent_priors, prior_of_node};
@@ -13,7 +13,7 @@ ghost use Rattle.divergence.specs.Readings.{vector_reading};
 ghost use Rattle.divergence.specs.Asked.{seen_of, lent_output, room_in, vector_told, vector_telling, prob_asked, evidence_asked};
 
 use crate::answers::{Output, ProbVector};
-use crate::evidence::Evidence;
+use crate::evidence::Listed;
 use crate::probabilities::{Merge, figure};
 use book::trackers::Seen;
 use priors::addresses::Address;
@@ -44,18 +44,19 @@ fn vector(merge: Merge, ending: u64, output: &mut Output) -> Result<Option<ProbV
 // Of a prior and the evidence at its address, if there is any.
 fn posterior_vector(
     prior: &Prior,
-    evidence: Option<Evidence>,
+    listed: Option<Listed>,
     output: &mut Output,
 ) -> Result<Option<ProbVector>, Reason>
+    requires { IfSome listed (λ l. l.evidence.entries.used ≤ max_entries) }
     ensures same_addresses { output.new.addresses.ghost_name ≡ output.old.addresses.ghost_name }
     ensures same_figures { output.new.figures.ghost_name ≡ output.old.figures.ghost_name }
-    ensures told { vector_told result output.new.addresses.now output.new.figures.now ≡ vector_telling (lent_output output.old.addresses.now output.old.figures.now) (vector_reading (room_in (lent_output output.old.addresses.now output.old.figures.now)) (Some (posterior (prior_of_node prior.now.children.now prior.now.node) (evidence_in evidence.entry)))) }
+    ensures told { vector_told result output.new.addresses.now output.new.figures.now ≡ vector_telling (lent_output output.old.addresses.now output.old.figures.now) (vector_reading (room_in (lent_output output.old.addresses.now output.old.figures.now)) (Some (posterior (prior_of_node prior.now.children.now prior.now.node) (evidence_in listed.entry)))) }
 {
     let count = u64::from(prior.node.count);
-    match evidence {
-        Some(evidence) => {
-            let ending = count + u64::from(evidence.ending_count());
-            vector(Merge::both(prior, evidence), ending, output)
+    match listed {
+        Some(listed) => {
+            let ending = count + u64::from(listed.evidence.ending_count());
+            vector(Merge::both(prior, listed), ending, output)
         }
         None => vector(Merge::prior(prior), count, output),
     }
@@ -77,7 +78,7 @@ pub fn prob_vector(
     let listing = seen.listing()?;
     let rank = node.rank();
     match priors.prior(rank) {
-        Some(prior) => posterior_vector(&prior, Evidence::find(&listing, rank), output),
+        Some(prior) => posterior_vector(&prior, Listed::find(&listing.entries(), rank), output),
         None => Ok(None),
     }
 }
@@ -93,10 +94,10 @@ pub fn evidence_prob_vector(
     ensures told { vector_told result output.new.addresses.now output.new.figures.now ≡ evidence_asked (seen_of seen.now.tracker seen.now.book.now seen.now.queue.now) (rank_of node.scale node.point) (lent_output output.old.addresses.now output.old.figures.now) }
 {
     let listing = seen.listing()?;
-    match Evidence::find(&listing, node.rank()) {
-        Some(evidence) if evidence.total() != 0 => vector(
-            Merge::evidence(evidence),
-            u64::from(evidence.ending_count()),
+    match Listed::find(&listing.entries(), node.rank()) {
+        Some(listed) if listed.evidence.total() != 0 => vector(
+            Merge::evidence(listed),
+            u64::from(listed.evidence.ending_count()),
             output,
         ),
         _ => Ok(None),

@@ -48,7 +48,7 @@ impl EntriesMut<'_> {
     {
         let entries = self.as_ref();
         if let Ok(i) = hints.find_at(&entries, key, place) {
-            let count = entries.count(i);
+            let count = entries.lent().count(i);
             self.set_count(i, count.saturating_sub(1));
         }
     }

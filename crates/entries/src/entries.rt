@@ -1,7 +1,7 @@
 // An entry is 24 bytes: node, kind, child address, count. A book's entries are the used ones at its front, and they ascend. The changes
 // here are by place; those by key stand in changes.rt.
 ghost use Rattle.std.specs.Prelude.{◌≡◌, ◌+◌, ◌-◌, ◌*◌, ◌^◌, ◌≤◌, ◌<◌, ◌++◌, ltb, length, take, drop};
-ghost use Rattle.priors.specs.Word.{store};
+ghost use Rattle.priors.specs.Word.{word, store};
 ghost use Rattle.priors.specs.Rows.{row, keys, Ascends, change};
 ghost use Rattle.priors.specs.Search.{holds};
 ghost use Rattle.entries.specs.Keys.{key_value};
@@ -14,7 +14,16 @@ use priors::addresses::{rank_at, write_rank};
 use priors::places::partition_point;
 use priors::words::{read_u32, write_u32};
 
-// The used entries of a book, to be read. The C interface lends all its bytes, and the number of used entries beside them.
+// Entries as a call is lent them: all bytes of a book, and how many entries at its front are used. They may stand in any order.
+#[derive(Clone, Copy)]
+pub struct LentEntries<'a> {
+    pub bytes: &'a [u8],
+    pub used: usize,
+    pub ghost in_bounds: { 24 * used ≤ length bytes.now },
+}
+
+// The used entries of a book, to be read: they ascend.
+// Fields of their own, here and in EntriesMut and Listing, and no LentEntries: no plainer, since each contract would say `.lent.`.
 #[derive(Clone, Copy)]
 pub struct Entries<'a> {
     pub bytes: &'a [u8],
@@ -23,7 +32,8 @@ pub struct Entries<'a> {
     pub ghost ascends: { Ascends 0 (keys (rows bytes.now used)) } by { Ascends-prop 0 (keys (rows bytes.now used)) },
 }
 
-// The same, to be changed.
+// The same, to be changed. Contracts say by `same_reference` and `len` that the lent slice stays the same one: a struct of a `&mut` does
+// not say it by itself.
 #[derive(Drop)]
 pub struct EntriesMut<'a> {
     pub bytes: &'a mut [u8],
@@ -32,7 +42,7 @@ pub struct EntriesMut<'a> {
     pub ghost ascends: { Ascends 0 (keys (rows bytes.now used)) } by { Ascends-prop 0 (keys (rows bytes.now used)) },
 }
 
-impl Entries<'_> {
+impl LentEntries<'_> {
     // The key of the entry at the place i.
     pub fn key(&self, i: usize) -> Key
         requires { i < self.now.used }
@@ -46,7 +56,7 @@ impl Entries<'_> {
         requires { i < self.now.used }
         ensures { result ≡ entry_count_at self.now.bytes.now i }
     {
-        read_u32(self.bytes, ENTRY_SIZE * i + 20)
+        count_of(self.bytes, ENTRY_SIZE * i)
     }
 
     // The place i is used and its entry has the given key.
@@ -63,13 +73,27 @@ impl Entries<'_> {
     {
         self.key(i) < key
     }
+}
+
+impl<'a> Entries<'a> {
+    // The same, with no order asked of them.
+    pub fn lent(&self) -> LentEntries<'a>
+        ensures bytes { result.bytes.now ≡ self.now.bytes.now }
+        ensures used { result.used ≡ self.now.used }
+    {
+        LentEntries {
+            bytes: self.bytes,
+            used: self.used,
+        }
+    }
 
     // Finds a key by halving: its place, or where it is missing the place where it would go.
     pub fn find(&self, key: Key) -> Result<usize, usize>
         ensures { result ≡ find_in (rows self.now.bytes.now self.now.used) (key_value key) }
     {
-        let i = partition_point(0, self.used, |i| self.is_below(i, key));
-        if self.holds_at(i, key) { Ok(i) } else { Err(i) }
+        let lent = self.lent();
+        let i = partition_point(0, self.used, |i| lent.is_below(i, key));
+        if lent.holds_at(i, key) { Ok(i) } else { Err(i) }
     }
 }
 
@@ -105,7 +129,7 @@ impl EntriesMut<'_> {
         ensures bytes { self.new.bytes.now ≡ with_count self.old.bytes.now i (entry_count_at self.old.bytes.now i + 1) }
         ensures used { self.new.used ≡ self.old.used }
     {
-        let count = self.as_ref().count(i);
+        let count = self.as_ref().lent().count(i);
         self.set_count(i, count + 1);
     }
 
@@ -129,9 +153,25 @@ pub fn key_of(s: &[u8], at: usize) -> Key
 {
     Key {
         node: rank_at(s, at),
-        kind: read_u32(s, at + 8),
+        kind: kind_of(s, at),
         child: rank_at(s, at + 12),
     }
+}
+
+// Its kind alone.
+pub fn kind_of(s: &[u8], at: usize) -> u32
+    requires { at + 24 ≤ length s.now }
+    ensures { result ≡ (fields_at s.now at).kind }
+{
+    read_u32(s, at + 8)
+}
+
+// Its count.
+pub fn count_of(s: &[u8], at: usize) -> u32
+    requires { at + 24 ≤ length s.now }
+    ensures { result ≡ word s.now (at + 20) }
+{
+    read_u32(s, at + 20)
 }
 
 // Writes an entry from `at`.
@@ -157,7 +197,7 @@ pub fn put_in(s: &mut [u8], n: usize, i: usize, key: Key, count: u32)
 }
 
 // Puts another count into the entry at the place i.
-// Bytes, whose other entries need no order.
+// Bytes and no Entries: no order is asked of the others.
 #[tactic(auto, unfolding(crate::specs::Entries::with_count))]
 pub fn put_count(s: &mut [u8], i: usize, count: u32)
     requires { 24 * i + 24 ≤ length s.old }

@@ -2,14 +2,19 @@
 ghost use Rattle.std.specs.Prelude.{◌≡◌};
 ghost use Rattle.entries.specs.Keys.{end_key, child_key, key_value};
 
-// The kind is a number, and an ending's child that of two zeros: the C interface lends entries so, and what is lent may hold any number until
-// its form is tested.
+// The kind is a number, and an ending's child that of two zeros: the C interface lends entries so, and what is lent may hold any number
+// until its form is tested.
 #[derive(Clone, Copy, Debug, PartialEq, Eq, PartialOrd, Ord)]
 pub struct Key {
     pub node: u64,
     pub kind: u32,
     pub child: u64,
 }
+
+// The kind of a node's ending, and that of a child under it.
+pub const ENDING: u32 = 0;
+
+pub const CHILD: u32 = 1;
 
 // The child of an ending: the rank of the address of two zeros, 2^63.
 pub const NO_CHILD: u64 = 9223372036854775808;
@@ -22,7 +27,7 @@ impl Key {
     {
         Key {
             node,
-            kind: 0,
+            kind: ENDING,
             child: NO_CHILD,
         }
     }
@@ -34,7 +39,7 @@ impl Key {
     {
         Key {
             node,
-            kind: 1,
+            kind: CHILD,
             child,
         }
     }

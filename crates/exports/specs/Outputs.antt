@@ -1,6 +1,6 @@
 -- The parts of each answer in the order in which they stand in lent numbers and arrays. Assumes nothing.
 use Rattle.std.specs.Prelude.{ℕ, List, [], ◌∷◌, get_or, Float}
-use Rattle.std.specs.Prelude.{Option, None, Some, Result, Ok, Err}
+use Rattle.std.specs.Prelude.{Option, None, Some, Result}
 use Rattle.priors.specs.declared.refusals.Reason.{Reason}
 use Rattle.priors.specs.Children.{ChildLook}
 use Rattle.book.specs.declared.trackers.Tracker.{Tracker}

@@ -22,7 +22,7 @@ use priors::refusals::{Reason, Refusal};
 // There is no answer, as with a node that has no prior.
 pub const NONE: u32 = 100;
 
-// The tracker with these numbers: window, entries used, paths accepted.
+// The tracker with these numbers, as the C interface lends them: window, entries used, paths accepted.
 pub fn tracker_of(state: &[u32; 3]) -> Tracker
     ensures { result ≡ tracker_of state.now }
 {
@@ -59,7 +59,7 @@ where
     }
 }
 
-// The node that 14 and 15 name.
+// The node that 14 and 15 name, in two numbers, since the C interface lends two.
 pub fn name_node<T: Copy>(answer: Result<T, Refusal>, scale: &mut i32, point: &mut u32)
     ensures scale_after { MatchResult answer (λ x. scale.new ≡ scale.old) (λ r. scale.new ≡ scale_or (named_node r) scale.old) }
     ensures point_after { MatchResult answer (λ x. point.new ≡ point.old) (λ r. point.new ≡ point_or (named_node r) point.old) }
@@ -67,15 +67,6 @@ pub fn name_node<T: Copy>(answer: Result<T, Refusal>, scale: &mut i32, point: &m
     if let Err(Refusal::AtNode(_, node)) = answer {
         *scale = node.scale;
         *point = node.point;
-    }
-}
-
-pub fn tell_checked<T: Copy>(answer: Result<T, Reason>) -> u32
-    ensures { result ≡ checked_number answer }
-{
-    match answer {
-        Ok(_) => 0,
-        Err(reason) => u32::from(reason),
     }
 }
 

@@ -46,8 +46,8 @@ pub extern "C" fn teakpool_train(
     };
     let sequences = Sequences {
         places: sequences,
-        s,
-        n,
+        count: s,
+        paths: n,
         rate,
     };
     let answer = train(&tables, &priors, &sequences, book, knots, values);

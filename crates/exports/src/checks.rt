@@ -3,8 +3,8 @@ ghost use Rattle.std.specs.Prelude.{◌≡◌};
 ghost use Rattle.priors.specs.Tables.{tables_refusal};
 ghost use Rattle.priors.specs.Priors.{layer_of, priors_refusal};
 
-use crate::answers::tell_checked;
 use priors::lookups::LentPriors;
+use priors::refusals::number;
 use priors::tables::LentTables;
 
 // Numbers 1 and 2.
@@ -12,7 +12,7 @@ use priors::tables::LentTables;
 pub extern "C" fn teakpool_check_tables(g: &[f64], d: &[f64]) -> u32
     ensures { result ≡ tables_refusal g.now d.now }
 {
-    tell_checked(LentTables { g, d }.check())
+    number(LentTables { g, d }.check())
 }
 
 // Numbers 3 to 7 and 22.
@@ -25,5 +25,5 @@ pub extern "C" fn teakpool_check_priors(nodes: &[u8], children: &[u8], floor: i3
         children,
         floor,
     };
-    tell_checked(priors.check())
+    number(priors.check())
 }

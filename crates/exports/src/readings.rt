@@ -1,5 +1,5 @@
 // The readings of a tracker. They change nothing but the lent outputs, and where they are refused or give none not those either, but
-// for the node that 14 and 15 name.
+// for the node that 14 and 15 name. Each puts together what the C interface lends apart.
 ghost use Rattle.std.specs.Prelude.{◌≡◌};
 ghost use Rattle.priors.specs.Address.{rank_of};
 ghost use Rattle.priors.specs.Tables.{lent_tables};

@@ -1,18 +1,16 @@
 // The calls that change a tracker, as they are recorded: after each its number, the state and the sums of book and queue, and at the end of
 // a list every byte of both.
-use crate::memory::{bring_places, same_places, sum_of};
-use crate::refusals::number_of;
+use crate::memory::{Buffers, bring_places, same_places, sum_of};
 use crate::tape::{Place, first_of};
 use book::trackers::{Seen, Tracker};
-use priors::refusals::Reason;
+use priors::refusals::{Reason, number};
 
 // A tracker as it stands, and the buffers that it is lent the first bytes of: so many. Lengths beside the buffers, since a later opening
-// may be lent more of them.
+// may be lent more of them; and the place in the tape beside the play, since it moves on while a reading sees the tracker.
 #[derive(Drop)]
 pub struct Play<'a> {
     pub tracker: Tracker,
-    book: &'a mut [u8],
-    queue: &'a mut [u8],
+    buffers: Buffers<'a>,
     book_len: usize,
     queue_len: usize,
 }
@@ -26,35 +24,34 @@ pub fn state(at: &mut Place) -> Tracker {
 }
 
 // The number of the refusal, if the call was refused, and the state come next.
-pub fn same_answer(at: &mut Place, answer: Result<Tracker, Reason>, tracker: Tracker) -> bool {
-    at.word() == number_of(answer) && state(at) == tracker
+pub fn same_state(at: &mut Place, answer: Result<Tracker, Reason>, tracker: Tracker) -> bool {
+    at.word() == number(answer) && state(at) == tracker
 }
 
 impl<'a> Play<'a> {
     // Before the first opening: all bytes of the buffers are the next word's, and there is a state of zeros and no bytes.
-    pub fn new(at: &mut Place, book: &'a mut [u8], queue: &'a mut [u8]) -> Play<'a> {
+    pub fn new(at: &mut Place, buffers: Buffers<'a>) -> Play<'a> {
         let [byte, ..] = at.word().to_le_bytes();
-        book.fill(byte);
-        queue.fill(byte);
+        buffers.book.fill(byte);
+        buffers.queue.fill(byte);
         Play {
             tracker: Tracker {
                 window: 0,
                 used: 0,
                 accepted: 0,
             },
-            book,
-            queue,
+            buffers,
             book_len: 0,
             queue_len: 0,
         }
     }
 
     pub fn book(&self) -> &[u8] {
-        first_of(self.book, self.book_len)
+        first_of(self.buffers.book, self.book_len)
     }
 
     pub fn queue(&self) -> &[u8] {
-        first_of(self.queue, self.queue_len)
+        first_of(self.buffers.queue, self.queue_len)
     }
 
     // What a reading sees.
@@ -69,7 +66,7 @@ impl<'a> Play<'a> {
     // The tracker goes on with the state that an answer gives. The answer comes next, with the state and the sums.
     fn goes_on(&mut self, at: &mut Place, answer: Result<Tracker, Reason>) -> bool {
         self.tracker = answer.unwrap_or(self.tracker);
-        same_answer(at, answer, self.tracker)
+        same_state(at, answer, self.tracker)
             && at.word() == sum_of(self.book())
             && at.word() == sum_of(self.queue())
     }
@@ -78,9 +75,9 @@ impl<'a> Play<'a> {
         let window = at.word();
         let book_len = at.count();
         let queue_len = at.count();
-        let book = self.book.get_mut(..book_len)?;
-        let queue = self.queue.get_mut(..queue_len)?;
-        let answer = Tracker::open(window, book, queue);
+        let answer = self.buffers.lend(book_len, queue_len, |book, queue| {
+            Tracker::open(window, book, queue)
+        })?;
         if answer.is_ok() {
             self.book_len = book_len;
             self.queue_len = queue_len;
@@ -92,9 +89,11 @@ impl<'a> Play<'a> {
     fn lend<A, F: FnOnce(Tracker, &mut [u8], &mut [u8]) -> A>(&mut self, call: F) -> Option<A>
         requires { F.IsAlwaysCallable call }
     {
-        let book = self.book.get_mut(..self.book_len)?;
-        let queue = self.queue.get_mut(..self.queue_len)?;
-        Some(call(self.tracker, book, queue))
+        let t = self.tracker;
+        self.buffers
+            .lend(self.book_len, self.queue_len, |book, queue| {
+                call(t, book, queue)
+            })
     }
 
     pub fn add_path(&mut self, at: &mut Place) -> Option<bool> {

@@ -8,7 +8,7 @@ mod tape; // a recorded file as words
 mod tallies; // cases tried and cases that differ
 mod figures; // runs of numbers and of figures
 mod memory; // lent bytes, brought in and compared
-mod refusals; // a refusal as it is recorded
+mod refusals; // an answer or a refusal as it is recorded
 mod priors_cases; // priors.bin
 mod priors_bounds; // priors and tables at the ends of their rules
 mod calls_cases; // openings, adds, lists of paths and tidies
@@ -22,6 +22,7 @@ mod train_cases; // training.bin: trainings
 mod training_cases; // training.bin
 mod book_bounds; // openings and adds at the ends of their rules
 
+use crate::memory::Buffers;
 use crate::tallies::Tally;
 use crate::tape::first_of;
 use std::io::Read;
@@ -29,7 +30,7 @@ use std::rt::Files;
 use std::{fs, io};
 
 // Reads until the buffer is full, the file ends or a read fails. A read gives as many bytes as it likes, so that no range or slice method
-// stands for the loop.
+// stands for the loop. What came before a read that fails is replayed, so its error ends the file and is no result.
 fn read_full(file: &mut impl Read, buffer: &mut [u8]) -> usize {
     let mut n = 0;
     while n < buffer.len() {
@@ -41,15 +42,13 @@ fn read_full(file: &mut impl Read, buffer: &mut [u8]) -> usize {
     n
 }
 
-// Reads a file whole into a buffer; what is read is its first bytes. No file reads as no bytes.
-fn read_file(rt: &impl Files, name: &str, buffer: &mut [u8]) -> usize {
-    match fs::open(rt, name) {
-        Ok(mut file) => read_full(&mut file, buffer),
-        Err(_) => 0,
-    }
+// Reads a file whole into a buffer; what is read is its first bytes.
+fn read_file(rt: &impl Files, name: &str, buffer: &mut [u8]) -> io::Result<usize> {
+    let mut file = fs::open(rt, name)?;
+    Ok(read_full(&mut file, buffer))
 }
 
-// Replays a file of at most N bytes.
+// Replays a file of at most N bytes; one that cannot be opened has none.
 fn recorded<const N: usize, F: FnOnce(&[u8]) -> Tally>(
     rt: &(impl Files + Print),
     name: &str,
@@ -60,7 +59,7 @@ fn recorded<const N: usize, F: FnOnce(&[u8]) -> Tally>(
     requires callable { F.IsAlwaysCallable replay }
 {
     let mut tape = [0u8; N];
-    let n = read_file(rt, file, &mut tape);
+    let n = read_file(rt, file, &mut tape).unwrap_or(0);
     let tally = replay(first_of(&tape, n));
     println!(rt; "{name}: {tally}")
 }
@@ -75,31 +74,39 @@ fn main(rt: HostRuntime) -> io::Result<()> {
     let mut queue = [0u8; 4644];
     let mut large_book = [0u8; 393240];
     let mut large_queue = zeros::<528384>();
+    let mut small = Buffers {
+        book: &mut book,
+        queue: &mut queue,
+    };
+    let mut large = Buffers {
+        book: &mut large_book,
+        queue: &mut large_queue,
+    };
     println!(&rt; "figures: {}", figures::compared())?;
     recorded::<32768, _>(&rt, "priors", "priors.bin", priors_cases::replay)?;
     println!(&rt; "priors at their bounds: {}", priors_bounds::run())?;
     recorded::<65536, _>(&rt, "calls", "calls.bin", |tape| {
-        readings_cases::replay(tape, b"TPC1", &mut book, &mut queue)
+        readings_cases::replay(tape, b"TPC1", &mut small)
     })?;
     recorded::<16384, _>(&rt, "large calls", "large.bin", |tape| {
-        readings_cases::replay(tape, b"TPL1", &mut large_book, &mut large_queue)
+        readings_cases::replay(tape, b"TPL1", &mut large)
     })?;
     recorded::<65536, _>(&rt, "altered memory", "altered.bin", |tape| {
-        altered_cases::replay(tape, &mut book, &mut queue)
+        altered_cases::replay(tape, &mut small)
     })?;
     recorded::<131072, _>(&rt, "readings", "readings.bin", |tape| {
-        readings_cases::replay(tape, b"TPR1", &mut book, &mut queue)
+        readings_cases::replay(tape, b"TPR1", &mut small)
     })?;
     recorded::<65536, _>(&rt, "tidies", "tidies.bin", |tape| {
-        readings_cases::replay(tape, b"TPY1", &mut book, &mut queue)
+        readings_cases::replay(tape, b"TPY1", &mut small)
     })?;
     recorded::<65536, _>(&rt, "batches", "batches.bin", |tape| {
-        readings_cases::replay(tape, b"TPB1", &mut book, &mut queue)
+        readings_cases::replay(tape, b"TPB1", &mut small)
     })?;
     recorded::<81920, _>(&rt, "training", "training.bin", training_cases::replay)?;
     println!(&rt;
         "openings at their bounds: {}",
-        book_bounds::openings(&mut large_book, &mut large_queue)
+        book_bounds::openings(&mut large)
     )?;
     println!(&rt; "paths at their bounds: {}", book_bounds::paths())
 }

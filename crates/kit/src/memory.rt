@@ -2,6 +2,29 @@
 use crate::tape::Place;
 use entries::limits::PLACE_SIZE;
 
+// The buffers that a book and a queue are lent from.
+#[derive(Drop)]
+pub struct Buffers<'a> {
+    pub book: &'a mut [u8],
+    pub queue: &'a mut [u8],
+}
+
+impl Buffers<'_> {
+    // What a call answers that is lent the first bytes of each: so many, if there are.
+    pub fn lend<A, F: FnOnce(&mut [u8], &mut [u8]) -> A>(
+        &mut self,
+        book_len: usize,
+        queue_len: usize,
+        call: F,
+    ) -> Option<A>
+        requires { F.IsAlwaysCallable call }
+    {
+        let book = self.book.get_mut(..book_len)?;
+        let queue = self.queue.get_mut(..queue_len)?;
+        Some(call(book, queue))
+    }
+}
+
 // The sum of data/README.md.
 pub fn sum_of(s: &[u8]) -> u32 {
     s.iter().fold(0u32, |sum, &byte| {

@@ -1,16 +1,14 @@
 // Priors and tables at the ends of their rules: each input is one step inside a limit or one step past it, and the number it gets
 // is the one of 01's table, with 0 for none: numbers, since they are what a call of the C interface gives. Tables of the largest lengths
 // are tried elsewhere: they do not fit the stack here.
-use crate::refusals::number_of;
 use crate::tallies::Tally;
 use crate::tape::first_of;
+use priors::addresses::{Address, write_rank};
 use priors::lookups::LentPriors;
-use priors::records::RECORD_SIZE;
+use priors::records::{RECORD_SIZE, Record};
+use priors::refusals::number;
 use priors::tables::LentTables;
 use priors::words::write_u32;
-
-// The scale -1, by its bits.
-const MINUS_ONE: u32 = u32::MAX;
 
 const LARGEST: u32 = u32::MAX;
 
@@ -19,54 +17,41 @@ const HIGHEST: f64 = 1099511627776.0;
 
 const BEYOND: f64 = 1099511627776.000244140625;
 
-// A prior record: an address by its scale's bits and its point, a count, a link.
-#[derive(Clone, Copy)]
-struct Prior {
-    bits: u32,
-    point: u32,
-    count: u32,
-    link: u32,
+// The record as it is lent.
+fn bytes(record: Record) -> [u8; RECORD_SIZE] {
+    let mut bytes = [0u8; RECORD_SIZE];
+    write_rank(&mut bytes, 0, record.rank);
+    write_u32(&mut bytes, 8, record.count);
+    write_u32(&mut bytes, 12, record.link);
+    bytes
 }
 
-impl Prior {
-    // The record as it is lent.
-    fn bytes(self) -> [u8; RECORD_SIZE] {
-        let mut bytes = [0u8; RECORD_SIZE];
-        write_u32(&mut bytes, 0, self.bits);
-        write_u32(&mut bytes, 4, self.point);
-        write_u32(&mut bytes, 8, self.count);
-        write_u32(&mut bytes, 12, self.link);
-        bytes
-    }
-}
-
-// A record that is in order on its own: the point i, the count 1.
-fn plain(i: u32, link: u32) -> Prior {
-    Prior {
-        bits: 0,
-        point: i,
+// A record that is in order on its own: the scale 0, the point i, the count 1.
+fn plain(i: u32, link: u32) -> Record {
+    Record {
+        rank: Address { scale: 0, point: i }.rank(),
         count: 1,
         link,
     }
 }
 
-// The largest address of the scale -1, which comes before the scale 0.
-fn below_zero(link: u32) -> Prior {
-    Prior {
-        bits: MINUS_ONE,
-        point: LARGEST,
-        count: 1,
-        link,
+// One at the largest address of the scale -1, which comes before the scale 0.
+fn below_zero(link: u32) -> Record {
+    Record {
+        rank: Address {
+            scale: -1,
+            point: LARGEST,
+        }
+        .rank(),
+        ..plain(0, link)
     }
 }
 
-// A record with the count 0.
-fn counts_nothing(link: u32) -> Prior {
-    Prior {
-        bits: 0,
-        point: 0,
+// One with the count 0.
+fn counts_nothing(link: u32) -> Record {
+    Record {
         count: 0,
-        link,
+        ..plain(0, link)
     }
 }
 
@@ -82,7 +67,7 @@ fn chain_link(i: u32, linked: u32) -> u32 {
 // Records with the points from 0 up, of which the first `linked` are one chain.
 fn put_all(records: &mut [[u8; RECORD_SIZE]], linked: u32) {
     for (record, i) in records.iter_mut().zip(0..) {
-        *record = plain(i, chain_link(i, linked)).bytes();
+        *record = bytes(plain(i, chain_link(i, linked)));
     }
 }
 
@@ -93,7 +78,7 @@ fn gets(nodes: &[u8], children: &[u8], wanted: u32) -> bool {
         children,
         floor: i32::MIN,
     };
-    number_of(priors.check()) == wanted
+    number(priors.check()) == wanted
 }
 
 // The same of records with the points from 0 up, of which the first `linked` children are one chain, and a node that starts it at `first`.
@@ -101,7 +86,7 @@ fn chain_gets(linked: u32, first: u32, wanted: u32) -> bool {
     let mut children = [[0u8; RECORD_SIZE]; 65];
     put_all(&mut children, linked);
     gets(
-        &plain(0, first).bytes(),
+        &bytes(plain(0, first)),
         first_of(&children, linked as usize).as_flattened(),
         wanted,
     )
@@ -109,26 +94,26 @@ fn chain_gets(linked: u32, first: u32, wanted: u32) -> bool {
 
 // The same of two nodes with these first links, and three children with these next links.
 fn links_get(first: u32, second: u32, a: u32, b: u32, c: u32, wanted: u32) -> bool {
-    let nodes = [plain(0, first), plain(1, second)].map(Prior::bytes);
-    let children = [plain(0, a), plain(1, b), plain(2, c)].map(Prior::bytes);
+    let nodes = [plain(0, first), plain(1, second)].map(bytes);
+    let children = [plain(0, a), plain(1, b), plain(2, c)].map(bytes);
     gets(nodes.as_flattened(), children.as_flattened(), wanted)
 }
 
 // The same of two nodes without children.
-fn nodes_get(a: Prior, b: Prior, wanted: u32) -> bool {
-    let nodes = [a, b].map(Prior::bytes);
+fn nodes_get(a: Record, b: Record, wanted: u32) -> bool {
+    let nodes = [a, b].map(bytes);
     gets(nodes.as_flattened(), &[], wanted)
 }
 
 // The same of a node and a chain of two children.
-fn pair_gets(a: Prior, b: Prior, wanted: u32) -> bool {
-    let children = [a, b].map(Prior::bytes);
-    gets(&plain(0, 1).bytes(), children.as_flattened(), wanted)
+fn pair_gets(a: Record, b: Record, wanted: u32) -> bool {
+    let children = [a, b].map(bytes);
+    gets(&bytes(plain(0, 1)), children.as_flattened(), wanted)
 }
 
 // The same of a node and a child.
-fn node_gets(node: Prior, child: Prior, wanted: u32) -> bool {
-    gets(&node.bytes(), &child.bytes(), wanted)
+fn node_gets(node: Record, child: Record, wanted: u32) -> bool {
+    gets(&bytes(node), &bytes(child), wanted)
 }
 
 // Sizes: no record, 4,096 and 4,097 nodes, 16,384 and 16,385 children, and a byte too many or too few.
@@ -190,8 +175,8 @@ fn totals(t: Tally) -> Tally {
 fn tables_get(zeroth: f64, x: f64, wanted: u32) -> bool {
     let g = [zeroth, x];
     let d = [0.0, 0.0];
-    number_of(LentTables { g: &g, d: &d }.check()) == wanted
-        && number_of(LentTables { g: &d, d: &g }.check()) == wanted
+    number(LentTables { g: &g, d: &d }.check()) == wanted
+        && number(LentTables { g: &d, d: &g }.check()) == wanted
 }
 
 // Tables of these two lengths, all zeros, get this number.
@@ -201,7 +186,7 @@ fn lengths_get(n: usize, m: usize, wanted: u32) -> bool {
         g: first_of(&zeros, n),
         d: first_of(&zeros, m),
     };
-    number_of(tables.check()) == wanted
+    number(tables.check()) == wanted
 }
 
 // Lengths 0, 1 and 2, and unequal ones; entries at -2^40 and 2^40 and beyond; NaN where it is never read, and at 1.

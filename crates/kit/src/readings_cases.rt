@@ -3,6 +3,7 @@
 use crate::calls_cases::Play;
 use crate::figures::bring;
 use crate::kl_calls::{all_call, node_call, stats_call};
+use crate::memory::Buffers;
 use crate::tallies::{self, Tally};
 use crate::tape::Place;
 use crate::vector_calls::{evidence_call, vector_call};
@@ -64,8 +65,12 @@ fn call<'a>(p: &mut Play, lending: &mut Lending<'a>, at: &mut Place<'a>) -> Opti
 }
 
 // A list of calls.
-fn same_case(case: &mut Place, book: &mut [u8], queue: &mut [u8]) -> Option<bool> {
-    let mut p = Play::new(case, book, queue);
+fn same_case(case: &mut Place, buffers: &mut Buffers) -> Option<bool> {
+    let lent = Buffers {
+        book: &mut *buffers.book,
+        queue: &mut *buffers.queue,
+    };
+    let mut p = Play::new(case, lent);
     let mut lending = Lending {
         tables: None,
         priors: None,
@@ -78,6 +83,6 @@ fn same_case(case: &mut Place, book: &mut [u8], queue: &mut [u8]) -> Option<bool
     Some(p.same_end(case))
 }
 
-pub fn replay(tape: &[u8], letters: &[u8; 4], book: &mut [u8], queue: &mut [u8]) -> Tally {
-    tallies::replay(tape, letters, |case| same_case(case, book, queue))
+pub fn replay(tape: &[u8], letters: &[u8; 4], buffers: &mut Buffers) -> Tally {
+    tallies::replay(tape, letters, |case| same_case(case, buffers))
 }

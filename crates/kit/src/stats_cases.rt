@@ -1,8 +1,10 @@
 // Replays the cases of training.bin that ask a baseline for figures at lengths.
 use crate::figures::{bring, is_next};
+use crate::refusals::same_told;
 use crate::tape::Place;
 use baseline::baselines::Baseline;
 use baseline::figures::{KLDivergenceBaselineStats, MeanVar};
+use priors::refusals::number;
 
 // Figure by figure, here and below: a NaN is to be the same as a NaN, so no `==`.
 fn same_pair(at: &mut Place, p: MeanVar) -> bool {
@@ -10,19 +12,15 @@ fn same_pair(at: &mut Place, p: MeanVar) -> bool {
 }
 
 fn same_record(at: &mut Place, f: KLDivergenceBaselineStats) -> bool {
-    same_pair(at, f.max)
-        && same_pair(at, f.min)
-        && same_pair(at, f.nz_count)
-        && same_pair(at, f.moment1_nz)
-        && same_pair(at, f.moment2_nz)
+    [f.max, f.min, f.nz_count, f.moment1_nz, f.moment2_nz]
+        .iter()
+        .all(|&pair| same_pair(at, pair))
 }
 
-// A length comes next, and then its answer; a refused one has zeros for its ten figures.
+// A length comes next, and then its answer: the number of its refusal, and ten figures.
 fn same_asked(at: &mut Place, baseline: &Baseline) -> bool {
-    match baseline.stats(at.word()) {
-        Ok(f) => at.word() == 0 && same_record(at, f),
-        Err(reason) => at.word() == u32::from(reason) && at.zeros(20),
-    }
+    let answer = baseline.stats(at.word());
+    at.word() == number(answer) && same_told(at, answer.ok(), 20, same_record)
 }
 
 // The case whose arguments come next.

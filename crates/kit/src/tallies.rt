@@ -50,6 +50,7 @@ pub fn replay<F: FnMut(&mut Place) -> Option<bool>>(
         return tally;
     }
     for _ in 0..at.word() {
+        // No `and_then`: a call within its closure wants an invariant of the loop, and this one doesn't.
         let agrees = match at.case() {
             Some(mut case) => same_case(&mut case),
             None => None,

@@ -1,20 +1,11 @@
 // Replays the cases of training.bin that train a baseline: its number of knots or its refusal, and every byte, knot and value that
 // it was lent, afterwards.
-use crate::figures::{bring, same_run};
+use crate::figures::{bring, is_next, same_run};
 use crate::memory::{bring_bytes, bring_places};
-use crate::refusals::same_refusal;
+use crate::refusals::same_answer;
 use crate::tape::Place;
 use baseline::training::{Sequences, train};
-use priors::refusals::Refusal;
 use priors::tables::LentTables;
-
-// The answer comes next: a refusal, the number of knots.
-fn same_answer(at: &mut Place, answer: Result<u32, Refusal>) -> bool {
-    match answer {
-        Ok(n) => same_refusal(at, None) && at.word() == n,
-        Err(r) => same_refusal(at, Some(r)) && at.word() == 0,
-    }
-}
 
 // The case whose arguments come next.
 pub fn same_case(at: &mut Place) -> Option<bool> {
@@ -34,8 +25,8 @@ pub fn same_case(at: &mut Place) -> Option<bool> {
     let rate = at.word();
     let sequences = Sequences {
         places: bring_places(at, &mut sequences)?,
-        s,
-        n,
+        count: s,
+        paths: n,
         rate,
     };
     let book = bring_bytes(at, &mut book)?;
@@ -43,7 +34,7 @@ pub fn same_case(at: &mut Place) -> Option<bool> {
     let values = bring(at, &mut values)?;
     let trained = train(&tables, &priors, &sequences, book, knots, values);
     Some(
-        same_answer(at, trained)
+        same_answer(at, trained, 1, is_next)
             && at.bytes() == book
             && same_run(at, knots)
             && same_run(at, values)

@@ -2,43 +2,46 @@
 use crate::calls_cases::Play;
 use crate::figures::is_next;
 use crate::outputs::lend_output;
-use crate::refusals::same_refusal;
+use crate::refusals::{same_answer, same_option};
 use crate::tape::Place;
-use divergence::answers::ProbVector;
+use divergence::answers::{Output, ProbVector};
 use divergence::vectors::{evidence_prob_vector, prob_vector};
+use priors::addresses::Address;
 use priors::lookups::LentPriors;
-use priors::refusals::{Reason, Refusal};
+use priors::refusals::Reason;
 
-// The answer comes next: a refusal, whether there is one, the places filled and the ending's figure.
-fn same_answer(at: &mut Place, answer: Result<Option<ProbVector>, Reason>) -> bool {
-    match answer {
-        Ok(Some(v)) => {
-            same_refusal(at, None)
-                && at.word() == 1
-                && at.word() == v.places
-                && is_next(at, v.ending)
-        }
-        Ok(None) => same_refusal(at, None) && at.zeros(4),
-        Err(reason) => same_refusal(at, Some(Refusal::from(reason))) && at.zeros(4),
-    }
+// The places filled and the ending's figure come next.
+fn same_parts(at: &mut Place, v: ProbVector) -> bool {
+    at.word() == v.places && is_next(at, v.ending)
 }
 
-// `prob_vector`: an address and the output that it is lent.
-pub fn vector_call(p: &Play, priors: &LentPriors, at: &mut Place) -> Option<bool> {
+// A reading at an address, and the output that it is lent.
+fn at_address<R: FnOnce(Address, &mut Output) -> Result<Option<ProbVector>, Reason>>(
+    at: &mut Place,
+    read: R,
+) -> Option<bool>
+    requires { R.IsAlwaysCallable read }
+{
     let node = at.address();
     lend_output(
         at,
-        |output| prob_vector(&p.seen(), priors, node, output),
-        same_answer,
+        |output| read(node, output),
+        |at, answer| same_answer(at, answer, 4, |at, v| same_option(at, v, 3, same_parts)),
     )
 }
 
-// `evidence_prob_vector`: the same.
-pub fn evidence_call(p: &Play, at: &mut Place) -> Option<bool> {
-    let node = at.address();
-    lend_output(
+// `prob_vector`.
+pub fn vector_call(p: &Play, priors: &LentPriors, at: &mut Place) -> Option<bool> {
+    at_address(
         at,
-        |output| evidence_prob_vector(&p.seen(), node, output),
-        same_answer,
+        |node, output| prob_vector(&p.seen(), priors, node, output),
+    )
+}
+
+// `evidence_prob_vector`.
+pub fn evidence_call(p: &Play, at: &mut Place) -> Option<bool> {
+    at_address(
+        at,
+        |node, output| evidence_prob_vector(&p.seen(), node, output),
     )
 }

@@ -2,13 +2,13 @@
 -- values. Assumes nothing.
 use mathlib.Core.Path.{◌≡◌, refl, sym, ap, ◌∙◌}
 use mathlib.Core.Logic.{⊎_elim}
-use mathlib.Core.Bool.{Bool, true, false, true≢false, ◌&&◌}
-use Prim.Native.Nat.{ℕ, zero, suc, ◌≤◌, ◌<◌}
+use mathlib.Core.Bool.{Bool, true, false, ◌&&◌}
+use Prim.Native.Nat.{ℕ, zero, suc, ◌<◌}
 use native.Mathlib.Omega.{arith}
 use mathlib.Core.List.{List, [], ◌∷◌}
 use lib.ListN.{length, get_or}
 use Rattle.std.specs.List.{list_all}
-use Rattle.priors.specs.Below.{all_below, list_of, Falls}
+use Rattle.priors.specs.Below.{all_below, list_of}
 use Rattle.priors.proofs.Tests.{split}
 
 -- ---- two tests as one
@@ -62,14 +62,6 @@ pub get_d_list_of : {X : Type 0} (n : ℕ) (f : ℕ → X) (i : ℕ) (d : X) →
 get_d_list_of zero f i d h = absurd (omega arith)
 get_d_list_of (suc n) f zero d h = refl
 get_d_list_of (suc n) f (suc i) d h = get_d_list_of n (λ j. f (suc j)) i d (omega arith)
-
--- where a test falls once, it fails from an index on where it fails there
-pub fails_on : (f : ℕ → Bool) (n : ℕ) → Falls f n → (m i : ℕ) → m ≤ i → i < n → f m ≡ false → f i ≡ false
-fails_on f n falls m i l h e = go (f i) refl
-  where
-    go : (b : Bool) → f i ≡ b → f i ≡ false
-    go false d = d
-    go true d = absurd (true≢false (sym (falls m i l h d) ∙ e))
 
 -- ---- the elements of a list
 

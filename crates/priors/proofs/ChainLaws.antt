@@ -1,17 +1,17 @@
 -- A chain whose links rise is its first record and the chain of that record's link, however many records are allowed for. So a walk along it needs no
 -- counting: what is left is always the chain of the link at hand. Assumes nothing.
-use mathlib.Core.Path.{◌≡◌, refl, ap}
+use mathlib.Core.Path.{◌≡◌, refl, sym, ap}
 use mathlib.Core.Logic.{◌⊎◌, inl, inr, ⊎_elim}
-use mathlib.Core.Bool.{Bool, true, false, ◌&&◌, ◌||◌}
+use mathlib.Core.Bool.{Bool, true, false, not, ◌&&◌, ◌||◌}
 use Prim.Native.Nat.{ℕ, zero, suc, ◌+◌, ◌-◌, ◌≤◌, ◌<◌}
 use native.Mathlib.Omega.{arith}
 use mathlib.Core.List.{List, [], ◌∷◌, map}
 use lib.Dec.{eqb, ltb, leb}
 use lib.ListN.{length}
-use borrow.Author.Tests.{eqb-true, ltb-true, leb-true}
+use borrow.Author.Tests.{eqb-true, ltb-true, leb-true, ne_eqb, lt-ltb}
 use Rattle.priors.specs.Rows.{row}
 use Rattle.priors.specs.declared.records.Record.{Record}
-use Rattle.priors.specs.Priors.{record_at, record_count, chain, chain_of, children_of, count_sum, every_node, every_child, first_link_fits, next_link_fits}
+use Rattle.priors.specs.Priors.{record_at, record_count, chain, chain_of, children_of, count_sum, every_node, every_child, first_link_fits, next_link_fits, record_count_fits}
 use Rattle.priors.proofs.BelowLaws.{all_at, first_true, second_true}
 
 -- where a record goes on: nowhere, or to a later one
@@ -85,6 +85,15 @@ module _ (children : List ℕ) (rising : every_child children (next_link_fits ch
   chain_counts link h l =
       let on : count_sum (children_of children link) ≡ (record_at children (link - 1)).count + count_sum (children_of children (record_at children (link - 1)).link) = ap count_sum (rows_step link h l) in
       omega arith
+
+-- where no count is 0, a total without a singleton is not 0 where there is a chain
+pub total_linked : (children : List ℕ) → every_child children (next_link_fits children) ≡ true → every_child children (record_count_fits children) ≡ true → (link ending : ℕ) → link ≤ record_count children → ending ≡ 0
+    → not (eqb link 0) ≡ ltb 0 (ending + count_sum (children_of children link))
+unfolding count_sum record_count_fits
+total_linked children rising counts zero ending l e = rw (e, rows_end children rising) (cc)
+total_linked children rising counts (suc k) ending l e =
+    let here : 0 < (record_at children (suc k - 1)).count = ltb-true 0 (record_at children (suc k - 1)).count (all_at (record_count_fits children) (record_count children) (suc k - 1) counts (omega arith)) in
+    rw (ne_eqb (suc k) 0 (λ e. omega arith)) (sym (lt-ltb 0 (ending + count_sum (children_of children (suc k))) (omega (arith, chain_counts children rising (suc k) (omega arith) l))))
 
 -- where first links fit, a node's is 0 or a record's number
 pub first_small : (nodes children : List ℕ) → every_node nodes (first_link_fits nodes children) ≡ true → (i : ℕ) → i < record_count nodes → (record_at nodes i).link ≤ record_count children

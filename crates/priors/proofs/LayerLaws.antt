@@ -3,7 +3,7 @@
 use mathlib.Core.Path.{◌≡◌, refl, sym, ap, ◌∙◌}
 use mathlib.Core.Logic.{⊎_elim}
 use mathlib.Core.Bool.{Bool, true, false, not, ◌&&◌}
-use Prim.Native.Nat.{ℕ, zero, suc, ◌+◌, ◌*◌, ◌/◌, ◌%◌, ◌^◌, ◌≤◌, ◌<◌}
+use Prim.Native.Nat.{ℕ, zero, suc, ◌+◌, ◌*◌, ◌/◌, ◌^◌, ◌≤◌, ◌<◌}
 use native.Mathlib.Omega.{arith}
 use mathlib.Core.List.{List, [], ◌∷◌}
 use Rattle.std.specs.Prelude.{None, Some}
@@ -13,7 +13,7 @@ use lib.ListN.{length, get_or}
 use lib.Signed.{lt_z}
 use mir.Syntax.{w32}
 use mir.Val.{to_z, of_z, SFits}
-use mir.ValLaws.{to_z-of_z, of_z-to_z, of_z_fits}
+use mir.ValLaws.{to_z-of_z, of_z_fits}
 use borrow.Author.Tests.{ltb-true, lt-ltb, le-ltb, eqb-true, eq-eqb}
 use Rattle.priors.specs.declared.records.Record.{Record}
 use Rattle.priors.specs.Address.{rank, rank_of, lift}
@@ -32,10 +32,7 @@ below_floor s p floor f h g =
     let high : rank_of s p / 2 ^ 32 ≡ lift (of_z w32 s) = omega (arith, lift_lt (of_z w32 s)) in
     ap (λ (n : ℕ). ltb n (layer_of floor)) high ∙ sym (lift_signed s floor f g)
 
--- a layer has one floor, and a floor one layer
-pub layer_back : (layer : ℕ) → layer < 2 ^ 32 → layer_of (floor_of layer) ≡ layer
-layer_back layer l = ap lift (of_z-to_z w32 (lift layer) (record { fits = lift_lt layer })) ∙ lift_back layer l
-
+-- the layer of a floor has that floor
 pub floor_back : (floor : ℤ) → SFits w32 floor → floor_of (layer_of floor) ≡ floor
 floor_back floor f = ap (to_z w32) (lift_back (of_z w32 floor) (omega (arith, of_z_fits w32 floor f))) ∙ to_z-of_z w32 floor f
 
@@ -53,18 +50,6 @@ module _ (layer a b : ℕ) where
   pub point_holds : a / 2 ^ 32 < layer → b / 2 ^ 32 < layer → point_of a ≡ point_of b → one_point layer a b ≡ true
   unfolding one_point
   point_holds l m e = rw (lt-ltb (a / 2 ^ 32) layer l, lt-ltb (b / 2 ^ 32) layer m, eq-eqb (point_of a) (point_of b) e)
-
-  pub apart_first : layer ≤ a / 2 ^ 32 → false ≡ one_point layer a b
-  unfolding one_point
-  apart_first l = rw (le-ltb (a / 2 ^ 32) layer l)
-
-  pub apart_second : a / 2 ^ 32 < layer → layer ≤ b / 2 ^ 32 → false ≡ one_point layer a b
-  unfolding one_point
-  apart_second l m = rw (lt-ltb (a / 2 ^ 32) layer l, le-ltb (b / 2 ^ 32) layer m)
-
-  pub point_low : a / 2 ^ 32 < layer → b / 2 ^ 32 < layer → eqb (point_of a) (point_of b) ≡ one_point layer a b
-  unfolding one_point
-  point_low l m = rw (lt-ltb (a / 2 ^ 32) layer l, lt-ltb (b / 2 ^ 32) layer m)
 
   pub point_parts : one_point layer a b ≡ true → (a / 2 ^ 32 < layer) × (b / 2 ^ 32 < layer) × (point_of a ≡ point_of b)
   unfolding one_point
@@ -167,28 +152,13 @@ none_there s k at up first other j l e =
 abbrev pub Passed : List ℕ → ℕ → ℕ → ℕ → Type 0
 Passed s layer wanted upto = (j : ℕ) → j < upto → (record_at s j).rank / 2 ^ 32 < layer → point_of (record_at s j).rank ≡ point_of wanted → ⊥
 
--- the address with the scale of `own` and the point wanted
-abbrev pub key_in : ℕ → ℕ → ℕ
-key_in own wanted = own / 2 ^ 32 * 2 ^ 32 + wanted % 2 ^ 32
+-- the address with this scale and the point wanted
+abbrev pub key_in : (scale wanted : ℕ) → ℕ
+key_in scale wanted = scale * 2 ^ 32 + point_of wanted
 
 -- the first address of the next scale
 abbrev pub group_end : ℕ → ℕ
-group_end own = own / 2 ^ 32 * 2 ^ 32 + 2 ^ 32
-
-group_number : (own r wanted : ℕ) → own ≤ r → r < group_end own → point_of r ≡ point_of wanted → r ≡ key_in own wanted
-group_number own r wanted l m e = omega arith
-
-key_point : (own wanted : ℕ) → point_of (key_in own wanted) ≡ point_of wanted
-key_point own wanted = omega arith
-
-key_low : (own wanted : ℕ) → key_in own wanted / 2 ^ 32 ≡ own / 2 ^ 32
-key_low own wanted = omega arith
-
-key_in_group : (own wanted : ℕ) → key_in own wanted < group_end own
-key_in_group own wanted = omega arith
-
-pub group_up : (own layer : ℕ) → own / 2 ^ 32 < layer → layer < 2 ^ 32 → group_end own < 2 ^ 64
-group_up own layer l m = omega arith
+group_end scale = (scale + 1) * 2 ^ 32
 
 module _ (s : List ℕ) (layer wanted : ℕ) (up : ascends (records s) ≡ true) (low : wanted / 2 ^ 32 < layer) where
   -- where none before a place has the point and none from it on, none is found
@@ -200,49 +170,36 @@ module _ (s : List ℕ) (layer wanted : ℕ) (up : ascends (records s) ≡ true)
   pub all_high : (start : ℕ) → start < record_count s → Passed s layer wanted start → layer ≤ (record_at s start).rank / 2 ^ 32 → Nowhere s layer wanted
   all_high start l p h = none_left start p (λ j b m t e. omega (arith, not_below s up start j b m))
 
-  module _ (start own at : ℕ) (is : own ≡ (record_at s start).rank) (first : FirstFrom s start (key_in own wanted) at) where
+  module _ (start scale key at : ℕ) (is : scale ≡ (record_at s start).rank / 2 ^ 32) (key_is : key ≡ key_in scale wanted) (first : FirstFrom s start key at) where
     -- none in the group has the point, if the place of its key has another
-    group_passed : (at < record_count s → (record_at s at).rank ≡ key_in own wanted → ⊥) → (j : ℕ) → start ≤ j → j < record_count s → (record_at s j).rank < group_end own → point_of (record_at s j).rank ≡ point_of wanted → ⊥
+    group_passed : (at < record_count s → (record_at s at).rank ≡ key → ⊥) → (j : ℕ) → start ≤ j → j < record_count s → (record_at s j).rank < group_end scale → point_of (record_at s j).rank ≡ point_of wanted → ⊥
     group_passed other j b m g e =
-        let key : (record_at s j).rank ≡ key_in own wanted = group_number own (record_at s j).rank wanted (omega (arith, is, not_below s up start j b m)) g e in
+        let found : (record_at s j).rank ≡ key = omega (arith, is, key_is, not_below s up start j b m, e) in
         ⊎_elim
-        (λ (l : j < at). omega (arith, key, first.2 j b l))
-        (λ (l : at ≤ j). other (omega arith) (omega (arith, key, first.3 at (omega arith) (omega arith), not_below s up at j l m)))
+        (λ (l : j < at). omega (arith, found, first.2 j b l))
+        (λ (l : at ≤ j). other (omega arith) (omega (arith, found, first.3 at (omega arith) (omega arith), not_below s up at j l m)))
         (split j at)
 
     -- the key is past all records
     pub past_all : Passed s layer wanted start → at ≡ record_count s → Nowhere s layer wanted
     past_all p e =
         none_left start p (λ j b m t q.
-        group_passed (λ l. absurd (omega arith)) j b m (omega (arith, first.2 j b (omega arith), key_in_group own wanted)) q)
+        group_passed (λ l. absurd (omega arith)) j b m (omega (arith, first.2 j b (omega arith), key_is)) q)
 
-    -- the next group begins past this one
-    module _ (next : ℕ) (then : FirstFrom s at (group_end own) next) where
-      pub group_ends : start < record_count s → start < next
-      group_ends l = ⊎_elim (λ b. b) (λ b. absurd (omega (arith, is, then.3 start b l))) (split start next)
+    -- the record at the key's place is the one
+    pub found_key : scale < layer → (record_at s at).rank ≡ key → found_by layer wanted (record_at s at).rank ≡ true
+    found_key l e =
+        let r = (record_at s at).rank in
+        found_low layer wanted r low ∙ point_holds layer wanted r low (omega (arith, e, key_is)) (omega (arith, e, key_is))
 
-      pub passed_on : Passed s layer wanted start → (at < record_count s → (record_at s at).rank ≡ key_in own wanted → ⊥) → Passed s layer wanted next
+    -- the next group begins at the first place past this one
+    module _ (end next : ℕ) (end_is : end ≡ group_end scale) (then : FirstFrom s at end next) where
+      pub passed_on : Passed s layer wanted start → (at < record_count s → (record_at s at).rank ≡ key → ⊥) → Passed s layer wanted next
       passed_on p other j l t e =
           ⊎_elim
           (λ (b : j < start). p j b t e)
           (λ (b : start ≤ j). ⊎_elim
-          (λ (d : j < at). group_passed other j b (omega arith) (omega (arith, first.2 j b d, key_in_group own wanted)) e)
-          (λ (d : at ≤ j). group_passed other j b (omega arith) (then.2 j d l) e)
+          (λ (d : j < at). group_passed other j b (omega arith) (omega (arith, first.2 j b d, key_is)) e)
+          (λ (d : at ≤ j). group_passed other j b (omega arith) (omega (arith, then.2 j d l, end_is)) e)
           (split j at))
           (split j start)
-
-  -- the record at the key's place is the one
-  pub found_key : (own at : ℕ) → own / 2 ^ 32 < layer → (record_at s at).rank ≡ key_in own wanted → found_by layer wanted (record_at s at).rank ≡ true
-  found_key own at l e =
-      let r = (record_at s at).rank in
-      found_low layer wanted r low ∙ point_holds layer wanted r low (omega (arith, e, key_low own wanted)) (sym (ap point_of e ∙ key_point own wanted))
-
--- ---- a place by steps
-
--- a first place from `lo` on is one from `from` on, where all between are below
-pub first_on : (s : List ℕ) (from lo k r : ℕ) → from ≤ lo → ((j : ℕ) → from ≤ j → j < lo → (record_at s j).rank < k) → FirstFrom s lo k r → FirstFrom s from k r
-first_on s from lo k r l h f = (omega (arith, f.0), f.1, (λ j a b. ⊎_elim (λ (d : j < lo). h j a d) (λ (d : lo ≤ j). f.2 j d b) (split j lo)), f.3)
-
--- all up to a record that is below are
-pub all_below_lem : (s : List ℕ) (from last k : ℕ) → ascends (records s) ≡ true → last < record_count s → (record_at s last).rank < k → (j : ℕ) → from ≤ j → j < last + 1 → (record_at s j).rank < k
-all_below_lem s from last k up l h j a b = omega (arith, not_below s up j last (omega arith) l)

@@ -5,6 +5,7 @@ use mathlib.Core.Bool.{Bool, true, false, cond}
 use Prim.Native.Nat.{ℕ, zero, suc, ◌+◌, ◌*◌, ◌%◌, ◌^◌, ◌≤◌, ◌<◌}
 use native.Mathlib.Omega.{arith}
 use mathlib.Core.List.{List, [], ◌∷◌, ◌++◌, map}
+use Rattle.std.specs.List.{fold, sum_by}
 use Rattle.std.specs.Prelude.{Option, None, Some, option_map}
 use lib.Dec.{eqb, leb, ltb}
 use lib.ListN.{length, get_or}
@@ -75,6 +76,14 @@ module _ (nodes children : List ℕ) (layer : ℕ) where
   pub points_last : Recorded nodes children → priors_refusal nodes children layer ≡ cond (points_differ nodes layer) 0 22
   unfolding priors_refusal
   points_last ok = rw (ok.whole, ok.children_whole, ok.ordered, ok.firsts, ok.rising, ok.lengths, ok.ascending, ok.counts, ok.totals)
+
+-- where the records have no number, nodes ascend and are not too many
+module _ (nodes children : List ℕ) (h : records_refusal nodes children ≡ 0) where
+  pub nodes_ordered : ascends (records nodes) ≡ true
+  nodes_ordered = (recorded nodes children h).ordered
+
+  pub nodes_few : record_count nodes ≤ max_nodes
+  nodes_few = not_too_many nodes max_nodes (recorded nodes children h).whole
 
 -- what accepted priors have
 pub record Accepted (nodes children : List ℕ) (layer : ℕ) : Type 0 where
@@ -178,3 +187,17 @@ module _ (children : List ℕ) (bytes : Bytes children) where
   pub total_le : (node : Record) → node.count < 2 ^ 32 → ChainFits children node → total (prior_of_node children node) < 2 ^ 32 * 65
   unfolding total chain_of
   total_le node small fits = omega (arith, chain_sum (record_count children) node.link, fits.short)
+
+-- counts added up one after another
+summed_from : (a : ℕ) (rs : List Record) → fold (λ b (r : Record). b + r.count) a rs ≡ a + count_sum (map (λ (r : Record). row r.rank r.count) rs)
+unfolding count_sum
+summed_from a [] = omega arith
+summed_from a (r ∷ rs) = summed_from (a + r.count) rs ∙ omega arith
+
+pub summed : (rs : List Record) → sum_by (λ (r : Record). r.count) rs ≡ count_sum (map (λ (r : Record). row r.rank r.count) rs)
+summed rs = summed_from 0 rs ∙ omega arith
+
+-- the counts of a short chain
+pub chain_little : (children : List ℕ) (link : ℕ) → Bytes children → length (chain_of children link) ≤ max_chain → sum_by (λ (r : Record). r.count) (chain_of children link) ≤ 2 ^ 32 * 64
+unfolding chain_of
+chain_little children link bytes short = omega (arith, summed (chain_of children link), chain_sum children bytes (record_count children) link, short)

@@ -16,7 +16,7 @@ use Rattle.priors.specs.Children.{below_in, reads_of, ChildLook, child_asked, Re
 use Rattle.priors.proofs.Tests.{ltb_same}
 use Rattle.priors.proofs.Orders.{Side, below, same, above, side, compare_lt, compare_gt, compare_self}
 use Rattle.priors.proofs.Exactly.{rows_ascend, chain_exact}
-use Rattle.priors.proofs.ChainLaws.{rows_step}
+use Rattle.priors.proofs.ChainLaws.{rows_step, rows_end}
 use Rattle.priors.proofs.PriorLaws.{accepted, found_fits}
 
 -- the rows of a walk that ends with the first one not below k
@@ -72,22 +72,36 @@ pub record Walk (k : ℕ) (rs : List Row) (found : Option ℕ) (read : ℕ) : Ty
   pub finds : look k rs ≡ found
   pub reads : walked k rs ≡ read
 
-module _ (children : List ℕ) (rising : every_child children (next_link_fits children) ≡ true) (k link : ℕ) (within : 0 < link) (fits : link ≤ record_count children) where
-  abbrev here : Record
-  here = record_at children (link - 1)
+module _ (children : List ℕ) (rising : every_child children (next_link_fits children) ≡ true) (k link : ℕ) (next : Record) (is : next ≡ record_at children (link - 1)) (within : 0 < link) (fits : link ≤ record_count children) where
+  first_row : children_of children link ≡ row next.rank next.count ∷ children_of children next.link
+  first_row = rw is (rows_step children rising link within fits)
 
   -- by the record at the link: it is past the key, has it, or is below it
-  pub walk_past : k < here.rank → Walk k (children_of children link) None 1
+  pub walk_past : k < next.rank → Walk k (children_of children link) None 1
   unfolding look walked
-  walk_past l = rw (rows_step children rising link within fits) (record { finds = rw (compare_lt k here.rank l); reads = rw (compare_lt k here.rank l) })
+  walk_past l = rw first_row (record { finds = rw (compare_lt k next.rank l); reads = rw (compare_lt k next.rank l) })
 
-  pub walk_found : here.rank ≡ k → Walk k (children_of children link) (Some here.count) 1
+  pub walk_found : k ≡ next.rank → Walk k (children_of children link) (Some next.count) 1
   unfolding look walked
-  walk_found e = rw (rows_step children rising link within fits) (record { finds = rw (e, compare_self k); reads = rw (e, compare_self k) })
+  walk_found e = rw (first_row, ← e) (record { finds = rw (compare_self k); reads = rw (compare_self k) })
 
-  pub walk_on : here.rank < k → Walk k (children_of children link) (look k (children_of children here.link)) (suc (walked k (children_of children here.link)))
+  pub walk_on : next.rank < k → Walk k (children_of children link) (look k (children_of children next.link)) (suc (walked k (children_of children next.link)))
   unfolding look walked
-  walk_on l = rw (rows_step children rising link within fits) (record { finds = rw (compare_gt k here.rank l); reads = rw (compare_gt k here.rank l) })
+  walk_on l = rw first_row (record { finds = rw (compare_gt k next.rank l); reads = rw (compare_gt k next.rank l) })
+
+-- no chain: nothing is found, and nothing read
+pub walk_none : (children : List ℕ) → every_child children (next_link_fits children) ≡ true → (k link : ℕ) → link ≡ 0 → Walk k (children_of children link) None 0
+unfolding look walked
+walk_none children rising k link e = rw (e, rows_end children rising) (record { finds = refl; reads = refl })
+
+-- where a chain ascends, a walk's end is the end of the look-up
+pub walk_ends : (children : List ℕ) (first link k read n : ℕ) (found : Option ℕ) → ascends (chain_of children first) ≡ true
+    → look k (children_of children first) ≡ look k (children_of children link)
+    → walked k (children_of children first) ≡ read + walked k (children_of children link)
+    → Walk k (children_of children link) found n
+    → (found ≡ count_of k (children_of children first)) × (read + n ≡ reads_of k (children_of children first))
+walk_ends children first link k read n found up finds counted walk =
+    (sym (sym (chain_exact children first k up) ∙ finds ∙ walk.finds), omega (arith, chain_reads children first k up, counted, walk.reads))
 
 -- ---- nothing past them decides
 

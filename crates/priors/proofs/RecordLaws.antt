@@ -1,13 +1,12 @@
 -- Records as a list: what stands at an index, and when the list ascends. Assumes nothing.
-use mathlib.Core.Path.{◌≡◌, ap, ◌∙◌}
+use mathlib.Core.Path.{◌≡◌, ap}
 use mathlib.Core.Logic.{⊎_elim}
-use mathlib.Core.Bool.{true, ◌&&◌}
+use mathlib.Core.Bool.{true}
 use Prim.Native.Nat.{ℕ, zero, suc, ◌≤◌, ◌<◌}
 use native.Mathlib.Omega.{arith}
 use mathlib.Core.List.{List, [], ◌∷◌}
 use lib.Dec.{ltb}
-use lib.ListN.{length, get_or, drop}
-use lib.Seq.{drop-cons, drop-length}
+use lib.ListN.{length, get_or}
 use borrow.Author.Tests.{ltb-true}
 use Rattle.priors.specs.declared.records.Record.{Record}
 use Rattle.priors.specs.Priors.{record_at, record_count, records, ascends_after, ascends}
@@ -26,29 +25,6 @@ module _ (s : List ℕ) where
   pub get_d_records : (i : ℕ) → i < record_count s → get_or (records s) i no_record ≡ record_at s i
   unfolding records
   get_d_records i h = get_d_list_of (record_count s) (record_at s) i no_record h
-
-  pub drop_records : (i : ℕ) → i < record_count s → drop i (records s) ≡ record_at s i ∷ drop (suc i) (records s)
-  drop_records i h = drop-cons (records s) i no_record (omega (arith, length_records)) ∙ ap (λ (r : Record). r ∷ drop (suc i) (records s)) (get_d_records i h)
-
-  pub drop_all_records : drop (record_count s) (records s) ≡ []
-  drop_all_records = rw (← length_records) (drop-length (records s))
-
-  -- a scan for the order: at the start, on the way, at the end
-  pub order_none : 0 ≡ record_count s → ascends (records s) ≡ true
-  unfolding ascends
-  order_none e = ap ascends (ap (λ (n : ℕ). drop n (records s)) e ∙ drop_all_records)
-
-  pub order_start : 0 < record_count s → ascends (records s) ≡ ascends_after (record_at s 0).rank (drop 1 (records s))
-  unfolding ascends
-  order_start h = ap ascends (drop_records 0 h)
-
-  pub order_on : (k i : ℕ) → i < record_count s → ascends_after k (drop i (records s)) ≡ ltb k (record_at s i).rank && ascends_after (record_at s i).rank (drop (suc i) (records s))
-  unfolding ascends_after
-  order_on k i h = ap (ascends_after k) (drop_records i h)
-
-  pub order_end : (k : ℕ) → ascends_after k (drop (record_count s) (records s)) ≡ true
-  unfolding ascends_after
-  order_end k = ap (ascends_after k) drop_all_records
 
 -- ---- an ascending list
 

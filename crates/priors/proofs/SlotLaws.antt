@@ -30,25 +30,27 @@ module _ (s : List ℕ) (layer i : ℕ) where
   pub clear_last : (v : ℕ) → Latest s i (slot_of s i) v → ClearFrom s layer i v
   clear_last v h j l m t = h.1 j l m (other_slot j t)
 
-  -- from one on to the one before it in its slot
-  pub clear_on : (at k v : ℕ) → at ≡ suc k → ClearFrom s layer i at → one_point layer (record_at s i).rank (record_at s k).rank ≡ false → slot_of s k ≡ slot_of s i → Latest s k (slot_of s k) v → ClearFrom s layer i v
-  clear_on at k v e h f x latest j l m t =
-      ⊎_elim
-      (λ (b : j < k). latest.1 j l b (other_slot j t ∙ sym x))
-      (⊎_elim
-      (λ (b : j ≡ k). not_both (one_point layer (record_at s i).rank (record_at s k).rank) (ap not f) (ap (λ (n : ℕ). one_point layer (record_at s i).rank (record_at s n).rank) (sym b) ∙ t))
-      (λ (b : k < j). h j (omega arith) m t))
-      (three j k)
+  -- the record k before it, by the ranks that were read: it has one point with i, or not
+  module _ (k own that : ℕ) (own_is : own ≡ (record_at s i).rank) (that_is : that ≡ (record_at s k).rank) where
+    pub clear_fails : one_point layer own that ≡ true → k < i → clear_before s layer i ≡ false
+    unfolding clear_before
+    clear_fails t l = all_fails (λ k. not (one_point layer (record_at s i).rank (record_at s k).rank)) i k l (ap not (rw (own_is, that_is) at t))
+
+    -- from one on to the one before it in its slot
+    pub clear_on : (at v : ℕ) → ClearFrom s layer i at → one_point layer own that ≡ false → slot_of s k ≡ slot_of s i → Latest s k (slot_of s k) v → at ≡ suc k → ClearFrom s layer i v
+    clear_on at v h f x latest e j l m t =
+        ⊎_elim
+        (λ (b : j < k). latest.1 j l b (other_slot j t ∙ sym x))
+        (⊎_elim
+        (λ (b : j ≡ k). not_both (one_point layer (record_at s i).rank (record_at s k).rank) (ap not (rw (own_is, that_is) at f)) (ap (λ (n : ℕ). one_point layer (record_at s i).rank (record_at s n).rank) (sym b) ∙ t))
+        (λ (b : k < j). h j (omega arith) m t))
+        (three j k)
 
   pub clear_all : ClearFrom s layer i 0 → clear_before s layer i ≡ true
   unfolding clear_before
   clear_all h =
       all_from (λ j. not (one_point layer (record_at s i).rank (record_at s j).rank)) i (λ j l.
       ap not (no_answer (one_point layer (record_at s i).rank (record_at s j).rank) (h j (omega arith) l)))
-
-  pub clear_fails : (j : ℕ) → j < i → one_point layer (record_at s i).rank (record_at s j).rank ≡ true → clear_before s layer i ≡ false
-  unfolding clear_before
-  clear_fails j l t = all_fails (λ k. not (one_point layer (record_at s i).rank (record_at s k).rank)) i j l (ap not t)
 
   -- a record that is not in the layer has one point with none
   clear_high : layer ≤ (record_at s i).rank / 2 ^ 32 → clear_before s layer i ≡ true
@@ -84,8 +86,12 @@ empty_layer s = all_from (clear_before s 0) (record_count s) (λ j l. clear_high
 
 -- ---- the links as they grow
 
-latest_is : (s : List ℕ) (i x v w : ℕ) → v ≡ w → Latest s i x w → Latest s i x v
+pub latest_is : (s : List ℕ) (i x v w : ℕ) → v ≡ w → Latest s i x w → Latest s i x v
 latest_is s i x v w e h = rw e h
+
+-- the link of a place before i
+pub linked_at : (s : List ℕ) (i k v : ℕ) (links : List ℕ) → Linked s i links → v ≡ get_or links k 0 → k < i → Latest s k (slot_of s k) v
+linked_at s i k v links h e l = latest_is s k (slot_of s k) v (get_or links k 0) e (h k l)
 
 pub heads_start : (s : List ℕ) (n x : ℕ) → x < n → Latest s 0 x (get_or (replicate n 0) x 0)
 heads_start s n x l = latest_is s 0 x (get_or (replicate n 0) x 0) 0 (get_or-replicate n x 0 0 l) (omega arith, (λ j a b e. absurd (omega arith)), λ b. absurd (omega arith))
@@ -99,6 +105,10 @@ module _ (s : List ℕ) (i : ℕ) where
   latest_other : (x v : ℕ) → Latest s i x v → (slot_of s i ≡ x → ⊥) → Latest s (i + 1) x v
   latest_other x v h n =
       (omega (arith, h.0), (λ j l m e. ⊎_elim (λ (b : j < i). h.1 j l b e) (λ (b : i ≤ j). let q : j ≡ i = omega arith in n (ap (slot_of s) (sym q) ∙ e)) (split j i)), h.2)
+
+  -- the head of its slot
+  pub head_at : (heads : List ℕ) (slot : ℕ) → slot ≡ slot_of s i → ((x : ℕ) → x < 4096 → Latest s i x (get_or heads x 0)) → Latest s i (slot_of s i) (get_or heads slot 0)
+  head_at heads slot is h = rw is (h (slot_of s i) (omega arith))
 
   pub heads_next : (heads : List ℕ) (slot : ℕ) → length heads ≡ 4096 → slot ≡ slot_of s i → ((x : ℕ) → x < 4096 → Latest s i x (get_or heads x 0)) → (x : ℕ) → x < 4096 → Latest s (i + 1) x (get_or (set heads slot (i + 1)) x 0)
   heads_next heads slot long is h x l = ⊎_elim (λ b. other (λ e. omega arith)) (⊎_elim same (λ b. other (λ e. omega arith))) (three x slot)

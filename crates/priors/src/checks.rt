@@ -1,11 +1,12 @@
 // The rules for prior records, numbers 3 to 7 and 22, each over all records before the next. Links and counts are tested in every record,
 // reached or not; length and order along each chain that starts at a node. The work is every node record five times, every child record
-// twice, and twice at most 64 records for each node; and what 22 takes in the layer below the floor (layers.rt).
+// twice, and at most 65 and then 64 records for each node; and what 22 takes in the layer below the floor (layers.rt).
 ghost use Rattle.std.specs.Prelude.{◌≡◌, true, ◌+◌, ◌*◌, ◌≤◌, leb, ltb, length};
 ghost use Rattle.priors.specs.Limits.{max_chain, record_size};
 ghost use Rattle.priors.specs.Refusals.{checked_number};
 ghost use Rattle.priors.specs.Priors.{records, record_count, ascends, chain_of, whole_records, every_node, every_child, first_link_fits, next_link_fits, chain_fits, chain_ascends, record_count_fits, total_fits, prior_of_node, total, records_refusal, priors_refusal};
 
+use crate::chains::Chain;
 use crate::places::Nodes;
 use crate::records::{RECORD_SIZE, Record, every_record, record_at, record_count};
 use crate::refusals::Reason;
@@ -17,6 +18,7 @@ pub const MAX_CHILDREN: usize = 16384;
 pub const MAX_CHAIN: usize = 64;
 
 // Whole records, and at most this many.
+// Not shared with book's `is_whole`: there may be no record here, and one more bound would be handed over.
 #[tactic(auto, unfolding(crate::specs::Priors::whole_records))]
 fn whole_records(s: &[u8], most: usize) -> bool
     ensures { result ≡ whole_records s.now most }
@@ -25,71 +27,29 @@ fn whole_records(s: &[u8], most: usize) -> bool
 }
 
 // Nodes strictly ascend.
-// Over bytes, as the C interface lends them, so no slice's own `is_sorted` serves.
 fn nodes_ascend(nodes: &[u8]) -> bool
     ensures { result ≡ ascends (records nodes.now) }
 {
-    let n = record_count(nodes);
-    if n == 0 {
-        return true;
-    }
-    let mut last = record_at(nodes, 0).rank;
-    for i in 1..n {
-        let next = record_at(nodes, i).rank;
-        if next <= last {
-            return false;
-        }
-        last = next;
-    }
-    true
-}
-
-// A chain of child records: the records that the link `first` and the links of these lead to.
-#[derive(Clone, Copy)]
-struct Chain<'a> {
-    children: &'a [u8],
-    first: u32,
-    ghost first_fits: { first ≤ record_count children.now },
-    ghost links_rise: { every_child children.now (next_link_fits children.now) ≡ true },
+    (0..record_count(nodes))
+        .map(|i| record_at(nodes, i))
+        .is_sorted_by(|last, next| last.rank < next.rank)
 }
 
 impl Chain<'_> {
-    // It has at most 64 records; the walk goes no further.
-    fn is_short(&self) -> bool
-        ensures { result ≡ leb (length (chain_of self.now.children.now self.now.first)) max_chain }
+    ghost use Rattle.priors.specs.Chains.{records_left};
+
+    // It has at most 64 records; the walk goes no further than the next.
+    fn is_short(self) -> bool
+        ensures { result ≡ leb (length (records_left self.entry)) max_chain }
     {
-        let mut link = self.first as usize;
-        let mut n = 0;
-        while link != 0 {
-            if n == MAX_CHAIN {
-                return false;
-            }
-            link = record_at(self.children, link - 1).link as usize;
-            n += 1;
-        }
-        true
+        self.take(MAX_CHAIN + 1).count() <= MAX_CHAIN
     }
 
     // It strictly ascends.
-    // Along links, so no slice's own `is_sorted` serves.
-    fn ascends(&self) -> bool
-        ensures { result ≡ ascends (chain_of self.now.children.now self.now.first) }
+    fn ascends(self) -> bool
+        ensures { result ≡ ascends (records_left self.entry) }
     {
-        if self.first == 0 {
-            return true;
-        }
-        let start = record_at(self.children, self.first as usize - 1);
-        let mut last = start.rank;
-        let mut link = start.link as usize;
-        while link != 0 {
-            let next = record_at(self.children, link - 1);
-            if next.rank <= last {
-                return false;
-            }
-            last = next.rank;
-            link = next.link as usize;
-        }
-        true
+        self.is_sorted_by(|last, next| last.rank < next.rank)
     }
 }
 
@@ -107,20 +67,22 @@ impl<'a> Linked<'a> {
     fn chain(&self, node: Record) -> Chain<'a>
         requires { node.link ≤ record_count self.now.children.now }
         ensures children { result.children.now ≡ self.now.children.now }
-        ensures first { result.first ≡ node.link }
+        ensures link { result.link ≡ node.link }
     {
         Chain {
             children: self.children,
-            first: node.link,
+            link: node.link,
         }
     }
 
+    #[tactic(auto, using(crate::proofs::ChainLaws::first_small), unfolding(crate::specs::Priors::chain_fits))]
     fn chains_short(&self) -> bool
         ensures { result ≡ every_node self.now.nodes.now (chain_fits self.now.nodes.now self.now.children.now) }
     {
         every_record(self.nodes, |_, node| self.chain(node).is_short())
     }
 
+    #[tactic(auto, using(crate::proofs::ChainLaws::first_small), unfolding(crate::specs::Priors::chain_ascends))]
     fn chains_ascend(&self) -> bool
         ensures { result ≡ every_node self.now.nodes.now (chain_ascends self.now.nodes.now self.now.children.now) }
     {
@@ -128,7 +90,7 @@ impl<'a> Linked<'a> {
     }
 
     // The node's total is not 0: since no child count is 0, that takes a singleton or a chain.
-    #[tactic(auto, unfolding(crate::specs::Priors::total))]
+    #[tactic(auto, using(crate::proofs::ChainLaws::total_linked), unfolding(crate::specs::Priors::total))]
     fn total_fits(&self, node: Record) -> bool
         requires link_bound { node.link ≤ record_count self.now.children.now }
         requires counts_fit { every_child self.now.children.now (record_count_fits self.now.children.now) ≡ true }
@@ -137,6 +99,7 @@ impl<'a> Linked<'a> {
         node.count != 0 || node.link != 0
     }
 
+    #[tactic(auto, using(crate::proofs::ChainLaws::first_small), unfolding(crate::specs::Priors::total_fits))]
     fn totals_fit(&self) -> bool
         requires { every_child self.now.children.now (record_count_fits self.now.children.now) ≡ true }
         ensures { result ≡ every_node self.now.nodes.now (total_fits self.now.nodes.now self.now.children.now) }
@@ -147,6 +110,7 @@ impl<'a> Linked<'a> {
 
 // Every first link is 0 or a record's number.
 // Two slices: these are the tests that Linked rests on.
+#[tactic(auto, unfolding(crate::specs::Priors::first_link_fits))]
 fn first_links_fit(nodes: &[u8], children: &[u8]) -> bool
     ensures { result ≡ every_node nodes.now (first_link_fits nodes.now children.now) }
 {
@@ -155,6 +119,7 @@ fn first_links_fit(nodes: &[u8], children: &[u8]) -> bool
 }
 
 // Every next link ends its chain, or rises and is a record's number. The record at i has the number i + 1.
+#[tactic(auto, unfolding(crate::specs::Priors::next_link_fits))]
 fn next_links_fit(children: &[u8]) -> bool
     ensures { result ≡ every_child children.now (next_link_fits children.now) }
 {
@@ -166,6 +131,7 @@ fn next_links_fit(children: &[u8]) -> bool
 }
 
 // No child count is 0.
+#[tactic(auto, unfolding(crate::specs::Priors::record_count_fits))]
 fn counts_fit(children: &[u8]) -> bool
     ensures { result ≡ every_child children.now (record_count_fits children.now) }
 {
@@ -200,6 +166,7 @@ fn check_records(nodes: &[u8], children: &[u8]) -> Result<(), Reason>
 }
 
 // Numbers 3 to 7, and then 22.
+#[tactic(auto, using(crate::proofs::PriorLaws::nodes_ordered, crate::proofs::PriorLaws::nodes_few, crate::proofs::PriorLaws::recorded, crate::proofs::PriorLaws::points_last))]
 pub fn check_priors(nodes: &[u8], children: &[u8], layer: u32) -> Result<(), Reason>
     ensures { checked_number result ≡ priors_refusal nodes.now children.now layer }
 {

@@ -1,39 +1,50 @@
 // Number 22: no two node records in the layer below the floor have one point. Records are told apart by slots, twelve bits made of the
 // point: each record is compared only with the earlier ones of its slot, which links join from the last one back. So the work is about
-// one pass over them, unless many points meet in few slots; slots and links are 16,384 bytes of stack.
+// one pass over them, unless many points meet in few slots. Slots and links are two arrays of numbers, 16,384 bytes of stack, 0 for none:
+// there is no heap, so no map of slots.
 ghost use Rattle.std.specs.Prelude.{◌≡◌, ◌≤◌, ◌<◌};
 ghost use Rattle.priors.specs.Limits.{max_nodes};
 ghost use Rattle.priors.specs.Priors.{record_count, one_point, clear_before, points_differ};
-ghost use Rattle.priors.specs.Layer.{slot_of, Latest, Linked};
+ghost use Rattle.priors.specs.Layer.{slot, slot_of, Latest, Linked};
 
+use crate::addresses::{point_part, scale_part};
 use crate::places::Nodes;
 
 // Both ranks are in the layer and have one point.
+#[tactic(auto, unfolding(crate::specs::Priors::one_point))]
 fn one_point(layer: u32, a: u64, b: u64) -> bool
     ensures { result ≡ one_point layer a b }
 {
-    if layer as u64 <= a / 4294967296 {
-        return false;
-    }
-    if layer as u64 <= b / 4294967296 {
-        return false;
-    }
-    a % 4294967296 == b % 4294967296
+    scale_part(a) < layer && scale_part(b) < layer && point_part(a) == point_part(b)
 }
 
-impl Nodes<'_> {
+// Twelve bits made of the rank's point.
+fn slot(rank: u64) -> usize
+    ensures { result ≡ slot rank }
+{
+    (u64::from(point_part(rank)) * 2654435761 / 1048576 % 4096) as usize
+}
+
+// Node records that strictly ascend, no more than there are links for.
+#[derive(Clone, Copy)]
+struct Few<'a> {
+    nodes: Nodes<'a>,
+    ghost few: { record_count nodes.bytes.now ≤ max_nodes },
+}
+
+impl Few<'_> {
     // The record i has one point with none before it: those with its slot are looked at, along their links from the last one on.
+    #[tactic(auto, using(crate::proofs::SlotLaws::clear_all, crate::proofs::SlotLaws::clear_fails))]
     fn clear_along(&self, layer: u32, i: usize, head: u16, links: &[u16; 4096]) -> bool
-        requires few { record_count self.now.bytes.now ≤ max_nodes }
-        requires i_in_bounds { i < record_count self.now.bytes.now }
-        requires latest { Latest self.now.bytes.now i (slot_of self.now.bytes.now i) head }
-        requires linked { Linked self.now.bytes.now i links.now }
-        ensures { result ≡ clear_before self.now.bytes.now layer i }
+        requires i_in_bounds { i < record_count self.now.nodes.bytes.now }
+        requires latest { Latest self.now.nodes.bytes.now i (slot_of self.now.nodes.bytes.now i) head }
+        requires linked { Linked self.now.nodes.bytes.now i links.now }
+        ensures { result ≡ clear_before self.now.nodes.bytes.now layer i }
     {
-        let own = self.rank_at(i);
+        let own = self.nodes.rank_at(i);
         let mut at = usize::from(head);
         while at != 0 {
-            if one_point(layer, own, self.rank_at(at - 1)) {
+            if one_point(layer, own, self.nodes.rank_at(at - 1)) {
                 return false;
             }
             at = usize::from(links[at - 1]);
@@ -42,19 +53,18 @@ impl Nodes<'_> {
     }
 
     // Each record in the layer in turn.
+    #[tactic(auto, using(crate::proofs::SlotLaws::rest_clear), unfolding(crate::specs::Priors::points_differ))]
     fn slots_clear(&self, layer: u32) -> bool
-        requires { record_count self.now.bytes.now ≤ max_nodes }
-        ensures { result ≡ points_differ self.now.bytes.now layer }
+        ensures { result ≡ points_differ self.now.nodes.bytes.now layer }
     {
-        // Two arrays of links, 0 for none: there is no heap, so no map of slots.
         let mut heads = [0u16; 4096];
         let mut links = [0u16; 4096];
-        for i in 0..self.len() {
-            let own = self.rank_at(i);
-            if layer as u64 <= own / 4294967296 {
+        for i in 0..self.nodes.len() {
+            let own = self.nodes.rank_at(i);
+            if layer <= scale_part(own) {
                 return true;
             }
-            let slot = (own % 4294967296 * 2654435761 / 1048576 % 4096) as usize;
+            let slot = slot(own);
             let head = heads[slot];
             if !self.clear_along(layer, i, head, &links) {
                 return false;
@@ -64,18 +74,18 @@ impl Nodes<'_> {
         }
         true
     }
+}
 
+impl Nodes<'_> {
     // Where the layer has no record, or only one, nothing is to be compared.
+    #[tactic(auto, using(crate::proofs::SlotLaws::few_clear, crate::proofs::SlotLaws::second_high))]
     pub fn points_differ(&self, layer: u32) -> bool
         requires { record_count self.now.bytes.now ≤ max_nodes }
         ensures { result ≡ points_differ self.now.bytes.now layer }
     {
-        if self.len() < 2 {
+        if self.len() < 2 || layer <= scale_part(self.rank_at(1)) {
             return true;
         }
-        if layer as u64 <= self.rank_at(1) / 4294967296 {
-            return true;
-        }
-        self.slots_clear(layer)
+        Few { nodes: *self }.slots_clear(layer)
     }
 }

@@ -6,6 +6,7 @@ pub mod addresses; // addresses and their ranks
 pub mod refusals; // every refusal of the watch, by its number
 pub mod tables; // the lent tables of ln gamma and digamma
 pub mod records; // node records and child records
+pub mod chains; // a walk along a chain of child records
 pub mod places; // where node records of an address begin
 pub mod layers; // number 22: points below the floor
 pub mod checks; // the rules for prior records

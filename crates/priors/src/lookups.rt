@@ -5,7 +5,7 @@ ghost use Rattle.priors.specs.Refusals.{checked_number};
 ghost use Rattle.priors.specs.Priors.{layer_of, records, points_differ, find_record, priors_refusal};
 ghost use Rattle.priors.specs.Layer.{Absent, FoundAt};
 
-use crate::addresses::layer_of;
+use crate::addresses::{layer_of, of_parts, point_part, scale_part};
 use crate::checks::check_priors;
 use crate::places::Nodes;
 use crate::prior::Prior;
@@ -47,13 +47,21 @@ impl<'a> LentPriors<'a> {
 }
 
 impl<'a> Priors<'a> {
+    // Its node records, to be searched.
+    #[tactic(auto, using(crate::proofs::PriorLaws::accepted))]
+    pub fn nodes(&self) -> Nodes<'a>
+        ensures { result.bytes.now ≡ self.now.nodes.now }
+    {
+        Nodes { bytes: self.nodes }
+    }
+
     // The prior that a look-up of the address with this rank finds.
+    #[tactic(auto, using(crate::proofs::PriorLaws::accepted))]
     pub fn prior(&self, rank: u64) -> Option<Prior<'a>>
         ensures found { option_map (λ p. p.node) result ≡ find_record self.now.layer rank (records self.now.nodes.now) }
         ensures lent { IfSome result (λ p. p.children.now ≡ self.now.children.now) }
     {
-        let nodes = Nodes { bytes: self.nodes };
-        let node = nodes.find(self.layer, rank)?;
+        let node = self.nodes().find(self.layer, rank)?;
         Some(Prior {
             node,
             children: self.children,
@@ -65,22 +73,22 @@ impl Nodes<'_> {
     // What a look-up finds where no record has this rank: in the layer the place of the record with its point. It goes group by group
     // of one scale, in each to the place of the one address with that scale and the point, and then to the first place of the next
     // scale.
+    #[tactic(auto, using(crate::proofs::LayerLaws::none_exact, crate::proofs::LayerLaws::all_high))]
     fn place_by_point(&self, layer: u32, rank: u64) -> Option<usize>
         requires { Absent self.now.bytes.now rank }
         ensures { FoundAt self.now.bytes.now layer rank result }
     {
-        if layer as u64 <= rank / 4294967296 {
+        if layer <= scale_part(rank) {
             return None;
         }
         let n = self.len();
         let mut start = 0;
         while start < n {
-            let own = self.rank_at(start);
-            if layer as u64 <= own / 4294967296 {
+            let scale = scale_part(self.rank_at(start));
+            if layer <= scale {
                 return None;
             }
-            let group = own / 4294967296 * 4294967296;
-            let key = group + rank % 4294967296;
+            let key = of_parts(scale, point_part(rank));
             let at = self.first_from(start, key);
             if at == n {
                 return None;
@@ -88,13 +96,14 @@ impl Nodes<'_> {
             if self.rank_at(at) == key {
                 return Some(at);
             }
-            start = self.first_from(at, group + 4294967296);
+            start = self.first_from(at, of_parts(scale + 1, 0));
         }
         None
     }
 
     // The place of the record that a look-up of this rank finds: the one with this exact address, or else in the layer the one with
     // its point.
+    #[tactic(auto, using(crate::proofs::LayerLaws::none_there, crate::proofs::LayerLaws::exact_found))]
     fn place_of(&self, layer: u32, rank: u64) -> Option<usize>
         ensures { FoundAt self.now.bytes.now layer rank result }
     {
@@ -107,6 +116,7 @@ impl Nodes<'_> {
     }
 
     // The record that a look-up of this rank finds, where no two in the layer have one point.
+    #[tactic(auto, using(crate::proofs::LayerLaws::found_one, crate::proofs::LayerLaws::found_no))]
     pub fn find(&self, layer: u32, rank: u64) -> Option<Record>
         requires { points_differ self.now.bytes.now layer ≡ true }
         ensures { result ≡ find_record layer rank (records self.now.bytes.now) }

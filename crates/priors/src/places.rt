@@ -6,7 +6,8 @@ ghost use Rattle.priors.specs.Layer.{NoneBelow, FirstFrom};
 
 use crate::records::{record_at, record_count};
 
-// The first index from `from` up to `to` that is not below, where those below stand before all others. By halving.
+// The first index from `from` up to `to` that is not below, where those below stand before all others.
+// By halving: over places of lent bytes, as the C interface lends them, so no slice's own search serves.
 pub fn partition_point<F: Fn(usize) -> bool>(from: usize, to: usize, is_below: F) -> usize
     requires from_le_to { from ≤ to }
     requires callable { (i : ℕ) → i < to → F.pre is_below i }
@@ -25,7 +26,7 @@ pub fn partition_point<F: Fn(usize) -> bool>(from: usize, to: usize, is_below: F
     lo
 }
 
-// Node records that strictly ascend. They are bytes, as the C interface lends them, so no slice's own search serves.
+// Node records that strictly ascend.
 #[derive(Clone, Copy)]
 pub struct Nodes<'a> {
     pub bytes: &'a [u8],
@@ -59,6 +60,7 @@ impl Nodes<'_> {
 
     // The same with no end given: in steps that double, then by halving in the last, so that what is near `from` is found soon.
     // A place and no Option, as of Rust's own partition_point: the search goes on from the end too.
+    #[tactic(auto, using(crate::proofs::RecordLaws::not_below))]
     pub fn first_from(&self, from: usize, rank: u64) -> usize
         requires { from ≤ record_count self.now.bytes.now }
         ensures { FirstFrom self.now.bytes.now from rank result }

@@ -25,6 +25,7 @@ pub fn record_count(s: &[u8]) -> usize
 }
 
 // The record numbered i from 0.
+#[tactic(auto, unfolding(crate::specs::Priors::record_at))]
 pub fn record_at(s: &[u8], i: usize) -> Record
     requires { record_size * i + 16 ≤ length s.now }
     ensures { result ≡ record_at s.now i }
@@ -38,6 +39,8 @@ pub fn record_at(s: &[u8], i: usize) -> Record
 }
 
 // Every record passes the test, which is told its place from 0.
+// A loop: with `all`, the closure that calls the test needs three clauses of its own, and the whole is longer.
+#[tactic(auto, using(crate::proofs::BelowLaws::all_none))]
 pub fn every_record<F: Fn(usize, Record) -> bool>(s: &[u8], test: F) -> bool
     requires { (i : ℕ) → i < record_count s.now → F.pre test i (record_at s.now i) }
     ensures { (p : ℕ → Bool) → ((i : ℕ) (b : Bool) → i < record_count s.now → F.post test i (record_at s.now i) b → b ≡ p i) → result ≡ all_below (record_count s.now) p }

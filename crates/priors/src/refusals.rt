@@ -1,7 +1,7 @@
 // Where a call is turned back, and by which number. A refusal is of one of two kinds: by a reason alone, or by one that lies in a
 // node and names it.
 ghost use Rattle.std.specs.Prelude.{◌≡◌};
-ghost use Rattle.priors.specs.Refusals.{reason_number, node_reason_number, number_of};
+ghost use Rattle.priors.specs.Refusals.{checked_number, reason_number, node_reason_number, number_of};
 ghost use Rattle.priors.specs.declared.refusals.Refusal.TheVariants.{Plain};
 
 use crate::addresses::Address;
@@ -72,5 +72,15 @@ impl From<Refusal> for u32 {
             Refusal::Plain(reason) => u32::from(reason),
             Refusal::AtNode(reason, _) => u32::from(reason),
         }
+    }
+}
+
+// A number, as a call of C answers; 0 where nothing is refused.
+pub fn number<T: Drop>(tested: Result<T, Reason>) -> u32
+    ensures { result ≡ checked_number tested }
+{
+    match tested {
+        Ok(_) => 0,
+        Err(reason) => u32::from(reason),
     }
 }

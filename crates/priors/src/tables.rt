@@ -45,6 +45,18 @@ impl<'a> LentTables<'a> {
     }
 }
 
+impl<'a> Tables<'a> {
+    pub fn lent(&self) -> LentTables<'a>
+        ensures g { result.g.now ≡ self.now.g.now }
+        ensures d { result.d.now ≡ self.now.d.now }
+    {
+        LentTables {
+            g: self.g,
+            d: self.d,
+        }
+    }
+}
+
 fn is_within(x: f64) -> bool
     ensures { result ≡ within x }
 {

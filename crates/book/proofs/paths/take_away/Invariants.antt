@@ -9,5 +9,5 @@ abbrev pub invariant-loop-i : goal.invariant-loop-i
 invariant-loop-i l = record {
   same_reference : l.entries.bytes.ghost_name ≡ l.initial.entries.bytes.ghost_name;
   used : l.entries.used ≡ l.initial.entries.used;
-  fading : Fading l.initial.entries.bytes.now l.initial.entries.used (counted_keys (path_of l.path.steps.now)) l.entries.bytes.now l.i;
+  fading : Fading l.initial.entries.bytes.now l.initial.entries.used (counted_keys (path_of l.steps.bytes.now)) l.entries.bytes.now l.i;
 }

@@ -27,11 +27,5 @@ loop-i-preserved c =
       | else-first_stays w ↦ rw (w.entries-is, w.to-is) (closing_past s₀ n s to i (omega arith) so_far (sym tells ∙ w.if-first_stays.false))
     ]
 
-pub shape_of-entries : goal.shape_of-entries
-shape_of-entries c = c.loop-i.invariant.same_length
-
-pub returns : goal.returns
-returns c = record {
-  upper_bound = omega (arith, c.loop-i.invariant.number_le);
-  result_after = closing_done c.args.entries.now (length c.args.entries.now / 24) c.loop-i.entries c.loop-i.to c.loop-i.i c.loop-i-test.false c.loop-i.invariant;
-}
+pub returns-clause-result_after : goal.returns-clause-result_after
+returns-clause-result_after c = closing_done c.args.entries.now (length c.args.entries.now / 24) c.loop-i.entries c.loop-i.to c.loop-i.i c.loop-i-test.false c.loop-i.invariant

@@ -2,17 +2,14 @@
 use Rattle.std.proofs.Common.{◌≡◌, ◌+◌, ◌≤◌, length}
 use Rattle.entries.specs.Limits.{max_entries}
 use Rattle.divergence.specs.Listing.{nodes_left}
-use Rattle.divergence.specs.Statistics.{walk, walk_over}
+use Rattle.divergence.specs.Statistics.{walk_by}
 use Rattle.divergence.proofs.FillLaws.{FilledTo}
 use Rattle.divergence.proofs.fillings.fill_all.Given as goal
 
 abbrev pub invariant-loop-node : goal.invariant-loop-node
 invariant-loop-node l = record {
-  filled : FilledTo (walk_over l.tables l.priors l.listing) (walk l.tables.g.now l.tables.d.now l.priors.nodes.now l.priors.children.now l.priors.layer (nodes_left l.nodes)) l.fn.output.addresses.now l.output.addresses.now l.fn.output.figures.now l.output.figures.now l.filled.places l.filled.skipped;
-  few : l.filled.places + l.filled.skipped + length (nodes_left l.nodes) ≤ max_entries;
+  filled : FilledTo (walk_by l.by (nodes_left l.nodes)) (walk_by l.by (nodes_left l.node-iterator)) l.fn.output.addresses.now l.output.addresses.now l.fn.output.figures.now l.output.figures.now l.filled.places l.filled.skipped;
+  few : l.filled.places + l.filled.skipped + length (nodes_left l.node-iterator) ≤ max_entries;
   same_addresses : l.output.addresses.ghost_name ≡ l.fn.output.addresses.ghost_name;
   same_figures : l.output.figures.ghost_name ≡ l.fn.output.figures.ghost_name;
 }
-
-abbrev pub decreases-loop-node : goal.decreases-loop-node
-decreases-loop-node l = length (nodes_left l.nodes)

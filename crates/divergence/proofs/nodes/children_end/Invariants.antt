@@ -4,4 +4,5 @@ use Rattle.divergence.specs.Parts.{part, leading}
 use Rattle.divergence.proofs.nodes.children_end.Given as goal
 
 abbrev pub invariant-loop-at : goal.invariant-loop-at
-invariant-loop-at l = l.i + leading (part l.book l.i l.used) ≡ l.at + leading (part l.book l.at l.used)
+invariant-loop-at l =
+    l.i + leading (part l.entries.bytes.now l.i l.entries.used) ≡ l.at + leading (part l.entries.bytes.now l.at l.entries.used)

@@ -46,7 +46,7 @@ returns-in-Some-clause-told c =
     let prior = c.in-Some.prior in
     let counts = prior_of_node prior.children.now prior.node in
     let found : prior_of p.nodes.now p.children.now (layer_of p.floor) rank ≡ Some counts = sym (λ j. prior_of (given.0 j) (given.1 j) (given.2 j) (c.rank-rank.ensures j)) ∙ prior_found c.in_ok-priors.priors c.rank-rank.result prior c.in-Some.ensures.found c.in-Some.ensures.lent in
-    let known : evidence_in c.find.result ≡ evidence_of rank listed = c.find.ensures.evidence ∙ (λ j. evidence_of (c.rank-rank.ensures j) (listed_nodes (rows (lent.0 j) (lent.1 j)))) in
+    let known : evidence_in c.find.result ≡ evidence_of rank listed = c.find.ensures.evidence ∙ (λ j. evidence_of (c.rank-rank.ensures j) (listed_nodes (rows ((c.entries.ensures.bytes ∙ lent.0) j) ((c.entries.ensures.used ∙ lent.1) j)))) in
     c.posterior_vector.ensures.told
     ∙ ap (λ (e : Option Counts). vector_telling o (vector_reading (room_in o) (Some (posterior counts e)))) known
     ∙ sym (ap (vector_telling o) (prob_some (form_refusal s.tracker s.book.now s.queue.now) p.nodes.now p.children.now (layer_of p.floor) listed rank (room_in o) (sym (c.in_ok-priors.ensures {u = tt}).number) (sym (c.in_ok-listing.ensures {u = tt}).number) counts found))

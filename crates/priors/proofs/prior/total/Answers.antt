@@ -1,38 +1,30 @@
-use mathlib.Core.Path.{◌≡◌, refl, ap, ◌∙◌}
-use native.Mathlib.Omega.{arith}
-use Prim.Native.Nat.{ℕ, ◌+◌, ◌-◌}
+-- What comes along the chain are its records' counts, and their sum is small.
+use Rattle.std.proofs.Common.{◌≡◌, ap, arith, rules}
+use Rattle.std.specs.List.{sum_by}
+use Rattle.std.proofs.lemmas.Iterator.{YieldsList-from_map}
+use Rattle.std.proofs.lemmas.Iterator.Consumers.{YieldsList-from_first, fits_by_from_yields_list, sum_by_from_yields_List}
+use Rattle.priors.specs.Chains.{records_left}
+use Rattle.priors.specs.Priors.{chain_of, total}
 use Rattle.priors.specs.declared.records.Record.{Record}
-use Rattle.priors.specs.Priors.{record_at, children_of, count_sum, total}
-use Rattle.priors.proofs.ChainLaws.{next_small, rows_end, rows_step, chain_length}
+use Rattle.priors.proofs.PriorLaws.{chain_little, summed}
 use Rattle.priors.proofs.prior.total.Goals as goal
 
-pub loop-link-init : goal.loop-link-init
-loop-link-init c = (c.requires.first_fits, refl, omega (arith, c.requires.short))
+pub sum-along-requires-clause-fits : goal.sum-along-requires-clause-fits
+sum-along-requires-clause-fits c =
+    let records = chain_of c.args.children.now c.args.node.link in
+    fits_by_from_yields_list (λ (r : Record). r.count) records _ 18446744073709551616
+    (YieldsList-from_map _ (λ (r : Record). r.count) (YieldsList-from_first (λ x. x) records_left records (ap records_left c.map.ensures.source)) c.map.ensures.closure (λ x r q k. search rules))
+    (omega (arith, chain_little c.args.children.now c.args.node.link c.type_inv.children c.requires.short))
 
-pub overflow_add-sum : goal.overflow_add-sum
-overflow_add-sum c = record { fits = omega (arith, chain_length c.args.children.now c.requires.links_rise c.loop-link.link (omega arith) (omega arith)) }
+along : (c : goal.After-from) → c.sum-along.result ≡ sum_by (λ (r : Record). r.count) (chain_of c.args.children.now c.args.node.link)
+along c =
+    let records = chain_of c.args.children.now c.args.node.link in
+    sum_by_from_yields_List (λ (r : Record). r.count) records _ c.sum-along.result c.sum-along.ensures.ran
+    (YieldsList-from_map _ (λ (r : Record). r.count) (YieldsList-from_first (λ x. x) records_left records (ap records_left c.map.ensures.source)) c.map.ensures.closure (λ x r q k. search rules))
 
-pub loop-link-smaller : goal.loop-link-smaller
-loop-link-smaller c =
-    let children = c.args.children.now in
-    let link = c.loop-link.link in
-    let next : c.record_at-next.result.link ≡ (record_at children (link - 1)).link = ap (λ (r : Record). r.link) c.record_at-next.ensures in
-    rw next (omega (arith, chain_length children c.requires.links_rise link (omega arith) (omega arith)))
-
-pub loop-link-preserved : goal.loop-link-preserved
-unfolding count_sum
-loop-link-preserved c =
-    let children = c.args.children.now in
-    let link = c.loop-link.link in
-    let sum = c.loop-link.sum in
-    let here = record_at children (link - 1) in
-    let is : c.record_at-next.result ≡ here = c.record_at-next.ensures in
-    let on : count_sum (children_of children link) ≡ here.count + count_sum (children_of children here.link) = ap count_sum (rows_step children c.requires.links_rise link (omega arith) (omega arith)) in
-    rw is (next_small children c.requires.links_rise (link - 1) (omega arith), omega arith, omega (arith, ap (λ (r : Record). r.count) is, chain_length children c.requires.links_rise link (omega arith) (omega arith)))
+pub overflow_add-result : goal.overflow_add-result
+overflow_add-result c = omega (arith, along c, chain_little c.args.children.now c.args.node.link c.type_inv.children c.requires.short)
 
 pub returns : goal.returns
-unfolding total count_sum
-returns c =
-    let children = c.args.children.now in
-    let ended : count_sum (children_of children c.loop-link.link) ≡ 0 = ap (λ (k : ℕ). count_sum (children_of children k)) c.loop-link-test.false ∙ ap count_sum (rows_end children c.requires.links_rise) in
-    omega arith
+unfolding total
+returns c = omega (arith, c.from.ensures, along c, summed (chain_of c.args.children.now c.args.node.link))

@@ -1,10 +1,7 @@
 use Rattle.std.proofs.Common.{sym, ◌∙◌, arith, add-one, ◌<◌}
 use Rattle.priors.specs.Priors.{record_count}
-use Rattle.priors.proofs.BelowLaws.{all_none, all_more, all_fails}
+use Rattle.priors.proofs.BelowLaws.{all_more, all_fails}
 use Rattle.priors.proofs.records.every_record.Goals as goal
-
-pub loop-i-init : goal.loop-i-init
-loop-i-init g c = λ p agree. all_none p
 
 pub returns-then-not-test : goal.returns-then-not-test
 returns-then-not-test g c = λ p agree.

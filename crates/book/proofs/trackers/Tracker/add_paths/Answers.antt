@@ -3,23 +3,28 @@
 use mathlib.Core.Path.{◌≡◌, refl, sym, ap, ◌∙◌}
 use Prim.Native.Nat.{◌+◌}
 use native.Mathlib.Omega.{arith}
-use Rattle.priors.specs.Refusals.{reason_number}
-use Rattle.priors.proofs.RuleLaws.{reason_some}
-use Rattle.book.specs.Form.{in_form}
+use borrow.Author.Rules.{rules}
+use Rattle.std.specs.Prelude.{MatchResult}
+use Rattle.std.proofs.lemmas.Result.{MatchResult-weaker, err_from_is_err_and}
 use Rattle.book.specs.Batches.{lent_path, batched, next_number, with_path}
 use Rattle.book.specs.Adding.{Gone}
-use Rattle.book.proofs.CallLaws.{passes, fails}
 use Rattle.book.proofs.GoingLaws.{machine, form_going}
-use Rattle.book.proofs.BatchLaws.{so_far, gone_on, gone_accepted, gone_nowhere, batch_on, batch_stopped, batch_end, batch_unformed, batch_formed}
+use Rattle.book.proofs.BatchLaws.{so_far, gone_on, gone_accepted, batch_on, batch_end, batch_formed, stopped, goes_on, formed_on, no_answer, stopped_unformed, stopped_at}
+use Rattle.book.specs.Form.{in_form}
+use mathlib.Core.Bool.{true}
 use Rattle.book.proofs.trackers.Tracker.add_paths.Goals as goal
+use Rattle.book.proofs.trackers.Tracker.add_paths.Goals.{In_ok-listing}
 
-pub returns-in-Err : goal.returns-in-Err
-returns-in-Err c =
+form : (c : In_ok-listing) → in_form c.args.self c.args.book.now c.args.queue.now ≡ true
+form c = formed_on c.args.self c.args.book.now c.args.queue.now _ c.listing.result c.listing.ensures.number c.in_ok-listing.ensures.cases
+
+pub returns-in_err-listing : goal.returns-in_err-listing
+returns-in_err-listing c =
     let t = c.args.self in
-    let s = c.args.book.now in
-    let q = c.args.queue.now in
-    let f = fails (in_form t s q) 9 c.in-Err.reason c.in-Err.ensures.number in
-    rw f.1 (batch_unformed t s q c.args.places.now f.0)
+    let z = c.in_err-listing.field-0.0 in
+    let e = err_from_is_err_and c.from_residual.result c.from_residual.ensures.1 in
+    let told : MatchResult c.listing.result (λ x. ⊥) (λ r. z ≡ stopped t 0 r) = MatchResult-weaker c.listing.result c.in_err-listing.ensures.cases (λ x h. no_answer z x h) (λ r h. search (rules, h)) in
+    rw (e.1, e.2) (stopped_unformed t c.args.book.now c.args.queue.now c.args.places.now c.listing.result z c.listing.ensures.number told)
 
 pub loop-k-init : goal.loop-k-init
 unfolding batched
@@ -27,31 +32,18 @@ loop-k-init c =
     let t = c.args.self in
     let s = c.args.book.now in
     let q = c.args.queue.now in
-    record { accepted = omega arith; going = form_going t s q (passes (in_form t s q) 8 c.in-Ok.ensures.number); fold = refl }
+    record { accepted = omega arith; going = form_going t s q (form (goal.at.loop-k-init c).In_ok-listing); fold = refl }
 
-pub add_going-requires : goal.add_going-requires
-add_going-requires c = c.loop-k.invariant.going
-
-pub overflow_cast-taken : goal.overflow_cast-taken
-overflow_cast-taken c = omega (arith, c.loop-k.invariant.accepted, c.loop-k.invariant.going.accepted_fit)
-
-pub returns-in-Err-add_going : goal.returns-in-Err-add_going
-returns-in-Err-add_going c =
-    let t = c.loop-k.self in
-    let s = c.loop-k.book in
-    let q = c.loop-k.queue in
-    let places = c.args.places.now in
-    let path = lent_path places c.loop-k.k in
-    let r = c.in-Err-add_going.reason in
+pub returns-in_err-map_err : goal.returns-in_err-map_err
+returns-in_err-map_err c =
+    let k = c.loop-k.k-counter in
     let u = c.add_going.new.self in
-    let gone : Gone t s q path (reason_number r) u c.add_going.new.book c.add_going.new.queue = rw c.lent_path.ensures at c.in-Err-add_going.ensures in
-    let m = reason_some r in
-    let start = machine c.args.self c.args.book.now c.args.queue.now in
-    let stopped = batch_stopped next_number with_path start places c.loop-k.k (machine t s q) c.loop-k.invariant.fold m.0 (sym gone.number_is ∙ m.1) (omega arith) in
-    let same = gone_nowhere t s q path u c.add_going.new.book c.add_going.new.queue (reason_number r) m.0 m.1 gone in
-    batch_formed c.args.self c.args.book.now c.args.queue.now places (passes (in_form c.args.self c.args.book.now c.args.queue.now) 8 c.in-Ok.ensures.number)
-    (record { number = reason_number r; taken = c.loop-k.k; left = machine u c.add_going.new.book c.add_going.new.queue })
-    (stopped ∙ (λ i. record { number = sym m.1 i; taken = c.loop-k.k; left = same i }))
+    let z = c.in_err-map_err.field-0.0 in
+    let e = err_from_is_err_and c.from_residual-in_err-map_err.result c.from_residual-in_err-map_err.ensures.1 in
+    let told : MatchResult c.add_going.result (λ x. ⊥) (λ r. z ≡ stopped u k r) = MatchResult-weaker c.add_going.result c.in_err-map_err.ensures.cases (λ x h. no_answer z x h) (λ r h. search (rules, h)) in
+    rw (e.1, e.2)
+    (stopped_at c.args.self c.args.book.now c.args.queue.now c.args.places.now c.add_going.result z (form (goal.at.returns-in_err-map_err c).In_ok-listing) k (omega arith)
+    c.loop-k.self c.loop-k.book c.loop-k.queue c.loop-k.invariant.fold u c.add_going.new.book c.add_going.new.queue (rw c.lent_path.ensures at c.add_going.ensures) told)
 
 pub loop-k-preserved : goal.loop-k-preserved
 loop-k-preserved c =
@@ -59,10 +51,11 @@ loop-k-preserved c =
     let s = c.loop-k.book in
     let q = c.loop-k.queue in
     let places = c.args.places.now in
-    let k = c.loop-k.k in
+    let k = c.loop-k.k-counter in
     let path = lent_path places k in
     let u = c.add_going.new.self in
-    let gone : Gone t s q path 0 u c.add_going.new.book c.add_going.new.queue = rw c.lent_path.ensures at c.in_default.ensures in
+    let taken = goes_on _ c.add_going.result c.in_ok-map_err.ensures.cases in
+    let gone : Gone t s q path 0 u c.add_going.new.book c.add_going.new.queue = rw (c.lent_path.ensures, taken) at c.add_going.ensures in
     record {
       accepted = omega (arith, c.loop-k.invariant.accepted, gone_accepted t s q path u c.add_going.new.book c.add_going.new.queue gone);
       going = gone.going;
@@ -71,15 +64,13 @@ loop-k-preserved c =
           ∙ ap (so_far (k + 1)) (gone_on t s q path u c.add_going.new.book c.add_going.new.queue gone);
     }
 
-pub overflow_cast-result : goal.overflow_cast-result
-overflow_cast-result c = omega (arith, c.loop-k.invariant.accepted, c.loop-k.invariant.going.accepted_fit)
-
 pub returns : goal.returns
 returns c =
     let places = c.args.places.now in
     let start = machine c.args.self c.args.book.now c.args.queue.now in
     let n = c.div_ceil-n.result in
-    let met : c.loop-k.k ≡ n = omega arith in
-    batch_formed c.args.self c.args.book.now c.args.queue.now places (passes (in_form c.args.self c.args.book.now c.args.queue.now) 8 c.in-Ok.ensures.number)
+    let met : c.loop-k.k-counter ≡ n = omega arith in
+    rw c.taken.ensures
+    (batch_formed c.args.self c.args.book.now c.args.queue.now places (form (goal.at.returns c).In_ok-listing)
     (so_far n (machine c.loop-k.self c.loop-k.book c.loop-k.queue))
-    (ap (batched next_number with_path start places) (sym (batch_end places n c.div_ceil-n.ensures)) ∙ rw met at c.loop-k.invariant.fold)
+    (ap (batched next_number with_path start places) (sym (batch_end places n c.div_ceil-n.ensures)) ∙ rw met at c.loop-k.invariant.fold))

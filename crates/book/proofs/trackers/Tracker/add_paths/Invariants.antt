@@ -10,7 +10,7 @@ use Rattle.book.proofs.trackers.Tracker.add_paths.Given as goal
 
 abbrev pub invariant-loop-k : goal.invariant-loop-k
 invariant-loop-k l = record {
-  accepted : l.self.accepted ≡ l.initial.self.accepted + l.k;
+  accepted : l.self.accepted ≡ l.initial.self.accepted + l.k-counter;
   going : Going l.self l.book l.queue;
-  fold : batched next_number with_path (machine l.initial.self l.initial.book l.initial.queue) l.places l.k ≡ so_far l.k (machine l.self l.book l.queue);
+  fold : batched next_number with_path (machine l.initial.self l.initial.book l.initial.queue) l.places l.k-counter ≡ so_far l.k-counter (machine l.self l.book l.queue);
 }

@@ -8,7 +8,7 @@ use lib.ListN.{take, drop}
 use Rattle.priors.specs.Word.{word}
 use Rattle.book.specs.Path.{path_of}
 use Rattle.book.specs.Calls.{next_place, steps_at}
-use Rattle.book.proofs.CallLaws.{none_leaves, nothing_left, place_in, leaves_is, leaves_steps, leaves_whole, leaves_part, leaves_ranks}
+use Rattle.book.proofs.CallLaws.{none_leaves, nothing_left, place_in, leaves_is, leaves_steps, leaves_some, leaves_part}
 use Rattle.book.proofs.trackers.Tracker.let_go.Goals as goal
 
 pub returns-then-self-eq0-clause-rewritten : goal.returns-then-self-eq0-clause-rewritten
@@ -23,12 +23,12 @@ steps_in-requires c =
     let steps = leaves_steps t q c.if-self-eq0.false c.requires c.if-self.false in
     rw c.next_place.ensures (omega arith)
 
-pub invariant_of-path : goal.invariant_of-path
-invariant_of-path c =
+pub invariant_of-oldest : goal.invariant_of-oldest
+invariant_of-oldest c =
     let t = c.args.self in
     let q = c.args.queue.now in
     let is = c.steps_in.ensures ∙ ap (λ (a : ℕ). take (8 * word q a) (drop (a + 4) q)) c.next_place.ensures in
-    rw is (record { whole = leaves_whole t q c.if-self-eq0.false c.requires c.if-self.false; ranks = leaves_ranks t q c.if-self-eq0.false c.requires c.if-self.false c.type_inv.queue })
+    rw is (record { some = leaves_some t q c.if-self-eq0.false c.requires c.if-self.false })
 
 pub returns-clause-rewritten : goal.returns-clause-rewritten
 returns-clause-rewritten c =

@@ -8,7 +8,7 @@ use Rattle.divergence.proofs.evidence.Evidence.child_terms.Given as goal
 
 abbrev pub invariant-loop-i : goal.invariant-loop-i
 invariant-loop-i l = record {
-  terms_are : child_terms l.tables.g.now l.tables.d.now l.t (children_of l.prior.children.now l.prior.node.link) l.fn.start (map child_row (part l.self.bytes.now (l.self.ending + 1) l.self.end))
-      ≡ child_terms l.tables.g.now l.tables.d.now l.t (children_of l.prior.children.now l.prior.node.link) l.sums (map child_row (part l.self.bytes.now l.i l.self.end));
-  sum_left : count_sum (map child_row (part l.self.bytes.now l.i l.self.end)) ≤ count_sum (map child_row (part l.self.bytes.now (l.self.ending + 1) l.self.end));
+  terms_are : child_terms l.tables.g.now l.tables.d.now l.t (children_of l.prior.children.now l.prior.node.link) l.fn.start (map child_row (part l.self.entries.bytes.now (l.self.ending + 1) l.self.entries.used))
+      ≡ child_terms l.tables.g.now l.tables.d.now l.t (children_of l.prior.children.now l.prior.node.link) l.sums (map child_row (part l.self.entries.bytes.now l.i l.self.entries.used));
+  sum_left : count_sum (map child_row (part l.self.entries.bytes.now l.i l.self.entries.used)) ≤ count_sum (map child_row (part l.self.entries.bytes.now (l.self.ending + 1) l.self.entries.used));
 }

@@ -8,5 +8,5 @@ use Rattle.divergence.proofs.evidence.Evidence.lacks_child.Given as goal
 
 abbrev pub invariant-loop-i : goal.invariant-loop-i
 invariant-loop-i l =
-    lacks_child (children_of l.prior.children.now l.prior.node.link) (map child_row (part l.self.bytes.now (l.self.ending + 1) l.self.end))
-    ≡ lacks_child (children_of l.prior.children.now l.prior.node.link) (map child_row (part l.self.bytes.now l.i l.self.end))
+    lacks_child (children_of l.prior.children.now l.prior.node.link) (map child_row (part l.self.entries.bytes.now (l.self.ending + 1) l.self.entries.used))
+    ≡ lacks_child (children_of l.prior.children.now l.prior.node.link) (map child_row (part l.self.entries.bytes.now l.i l.self.entries.used))

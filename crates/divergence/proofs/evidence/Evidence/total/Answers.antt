@@ -6,4 +6,4 @@ use Rattle.divergence.proofs.evidence.Evidence.total.Goals as goal
 pub returns : goal.returns
 returns c =
     let self = c.args.self.now in
-    omega (arith, c.count_total.ensures, evidence_total_lem self.bytes.now self.ending self.end self.ending_first)
+    omega (arith, c.count_total.ensures.capped, evidence_total_lem self.entries.bytes.now self.ending self.entries.used self.ending_first)

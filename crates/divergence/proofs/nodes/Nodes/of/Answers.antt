@@ -5,8 +5,9 @@ use Rattle.divergence.proofs.nodes.Nodes.of.Goals as goal
 
 pub invariant_of-result : goal.invariant_of-result
 invariant_of-result c =
-    let at = first c.args.listing.now.bytes.now c.children_end.result c.args.listing.now.used c.children_end.ensures in
-    record { within = at.within; at_ending = at.ends }
+    let e = c.args.entries in
+    let at = first e.bytes.now c.children_end.result e.used c.children_end.ensures in
+    record { few = c.requires; within = at.within; at_ending = at.ends }
 
 pub returns : goal.returns
-returns c = sym (first c.args.listing.now.bytes.now c.children_end.result c.args.listing.now.used c.children_end.ensures).nodes_are
+returns c = let e = c.args.entries in sym (first e.bytes.now c.children_end.result e.used c.children_end.ensures).nodes_are

@@ -6,15 +6,15 @@ use Rattle.divergence.proofs.probabilities.Merge.evidence.Goals as goal
 
 pub invariant_of-result : goal.invariant_of-result
 invariant_of-result c =
-    let e = c.args.evidence in
-    record { links_rise = no_links; link_fits = omega arith; place_fits = omega (arith, e.ending_first); entries_fit = e.in_bounds; children_ascend = e.ascending }
+    let e = c.args.listed.evidence in
+    record { links_rise = no_links; link_fits = omega arith; place_fits = omega (arith, e.ending_first); children_ascend = c.args.listed.ascending }
 
 pub returns-clause-left : goal.returns-clause-left
 returns-clause-left c =
-    let e = c.args.evidence in
-    sym (evidence_merged e.bytes.now e.ending e.end e.ascending)
+    let e = c.args.listed.evidence in
+    sym (evidence_merged e.entries.bytes.now e.ending e.entries.used c.args.listed.ascending)
 
 pub returns-clause-few : goal.returns-clause-few
 returns-clause-few c =
-    let e = c.args.evidence in
-    omega (arith, merged_few [] 0 e.bytes.now (e.ending + 1) e.end, no_chain_length, e.few)
+    let e = c.args.listed.evidence in
+    omega (arith, merged_few [] 0 e.entries.bytes.now (e.ending + 1) e.entries.used, no_chain_length)

@@ -9,7 +9,7 @@ pub invariant_of-result : goal.invariant_of-result
 unfolding rows
 invariant_of-result c =
     let p = c.args.prior.now in
-    record { links_rise = p.links_rise; link_fits = p.first_fits; place_fits = omega arith; entries_fit = omega arith; children_ascend = tt }
+    record { links_rise = p.links_rise; link_fits = p.first_fits; place_fits = omega arith; children_ascend = tt }
 
 pub returns-clause-left : goal.returns-clause-left
 returns-clause-left c = sym (posterior_unlisted c.args.prior.now.children.now [] c.args.prior.now.node)

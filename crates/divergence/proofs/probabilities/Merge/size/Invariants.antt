@@ -6,10 +6,7 @@ use Rattle.divergence.proofs.probabilities.Merge.size.Given as goal
 
 abbrev pub invariant-loop-child : goal.invariant-loop-child
 invariant-loop-child l = record {
-  places_are : l.size.places + length (children_left l.rest) ≡ length (children_left l.self);
-  sum_is : l.size.sum + count_sum (children_left l.rest) ≡ count_sum (children_left l.self);
+  places_are : l.size.places + length (children_left l.child-iterator) ≡ length (children_left l.self);
+  sum_is : l.size.sum + count_sum (children_left l.child-iterator) ≡ count_sum (children_left l.self);
   sum_bound : l.size.sum ≤ 2 ^ 33 * l.size.places;
 }
-
-abbrev pub decreases-loop-child : goal.decreases-loop-child
-decreases-loop-child l = length (children_left l.rest)

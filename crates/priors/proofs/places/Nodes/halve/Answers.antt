@@ -12,9 +12,6 @@ use Rattle.priors.proofs.RecordLaws.{ordered}
 use Rattle.priors.proofs.Tests.{split}
 use Rattle.priors.proofs.places.Nodes.halve.Goals as goal
 
-pub partition_point-requires-clause-callable : goal.partition_point-requires-clause-callable
-partition_point-requires-clause-callable c = λ i l _ _ _ _ _. omega arith
-
 pub returns : goal.returns
 returns c =
     let nodes = c.args.self.now.bytes.now in

@@ -1,7 +1,0 @@
-use Rattle.priors.proofs.tables.is_within.Goals as goal
-
-pub returns-then-x : goal.returns-then-x
-returns-then-x c = rw c.if-x.true
-
-pub returns-else-x : goal.returns-else-x
-returns-else-x c = rw c.if-x.false
