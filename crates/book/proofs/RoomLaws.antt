@@ -1,15 +1,15 @@
 -- The dry run for 12: the keys that a path lists are looked at in turn, and each that has no row and stands for the first time brings one. Assumes nothing.
 use mir.Val.{bool_byte}
 use mathlib.Core.Path.{◌≡◌, refl, sym, ap, ap₂, ◌∙◌}
-use Prim.Native.Nat.{ℕ, zero, suc, ◌+◌, ◌-◌, ◌*◌, ◌^◌, ◌≤◌, ◌<◌}
+use Prim.Native.Nat.{ℕ, zero, suc, ◌+◌, ◌-◌, ◌*◌, ◌/◌, ◌%◌, ◌^◌, ◌≤◌, ◌<◌}
 use native.Mathlib.Numerals.{add-one}
 use native.Mathlib.Omega.{arith}
 use mathlib.Core.List.{List, [], ◌∷◌}
 use Rattle.std.specs.Prelude.{Option, None, Some, Ok, Err}
 use mathlib.Core.Bool.{Bool, true, false, not, cond, ◌&&◌, ◌||◌}
 use lib.Dec.{eqb}
-use lib.ListN.{length, get_or, take, drop}
-use lib.Seq.{take-suc, take_all, drop-cons}
+use lib.ListN.{length, get_or, take}
+use lib.Seq.{take-suc, take_all}
 use Rattle.std.specs.List.{list_any, range_with_len}
 use native.Mathlib.Nat.{zero-add}
 use borrow.Author.Tests.{ne_eqb}
@@ -17,7 +17,7 @@ use Rattle.priors.specs.Rows.{Row, look, touch}
 use Rattle.priors.specs.Search.{blank, place, holds}
 use Rattle.priors.proofs.RowLaws.{look_other, length_touch, gained}
 use Rattle.priors.proofs.ByPlace.{look_place}
-use Rattle.entries.specs.Keys.{end_key, child_key}
+use Rattle.entries.specs.Keys.{end_key, child_key, kind_of}
 use Rattle.book.specs.Path.{Steps, listed_keys}
 use Rattle.entries.specs.Entries.{rows, find_in}
 use Rattle.book.specs.Figures.{Listed, Ranks}
@@ -25,30 +25,74 @@ use Rattle.book.specs.Changes.{change_all, touch_all, EndingsListed}
 use Rattle.book.specs.Recount.{occurrences}
 use Rattle.book.specs.Room.{brings}
 use Rattle.book.proofs.Passes.{first}
-use Rattle.book.proofs.Occurrences.{occ_nil, occ_cons}
-use Rattle.book.proofs.ListingForm.{end_below_child}
+use Rattle.book.proofs.Occurrences.{hit, occ_nil, occ_cons, occ_append}
+use Rattle.book.proofs.ListingForm.{kind_end, kind_child, end_below_child}
 use Rattle.book.proofs.DryRun.{change_all-snoc, gained_next, length_next}
 use Rattle.book.proofs.EndingLaws.{ending_listed, pairs_keep}
 use Rattle.entries.proofs.EntryLaws.{length_rows}
-use Rattle.book.proofs.StepLaws.{ranks_at, length_listed, listed_ending, listed_child}
+use Rattle.book.proofs.StepLaws.{ranks_at, length_listed, listed_ending, listed_child, listed_even, listed_odd}
 
 -- ---- a key among those before it
 
--- looked for among the keys numbered a, .. a + n - 1
-seen_from : (k : ℕ) (ks : List ℕ) (a n : ℕ) → a + n ≤ length ks → list_any (λ i. eqb k (get_or ks i 0)) (range_with_len a n) ≡ not (eqb (occurrences k (take n (drop a ks))) 0)
-seen_from k ks a zero h = rw occ_nil
-seen_from k ks a (suc n) h =
-    let x : ℕ = get_or ks a 0 in
-    let ih : list_any (λ i. eqb k (get_or ks i 0)) (range_with_len (a + 1) n) ≡ not (eqb (occurrences k (take n (drop (a + 1) ks))) 0) = seen_from k ks (a + 1) n (omega arith) in
-    let rest : List ℕ = take n (drop (suc a) ks) in
-    rw (ih, drop-cons ks a 0 (omega arith), add-one a, occ_cons k x rest) (go (eqb k x) (occurrences k rest))
-  where
-    go : (b : Bool) (n : ℕ) → b || not (eqb n 0) ≡ not (eqb (cond b 1 0 + n) 0)
-    go true n = rw (ne_eqb (1 + n) 0 (λ z. omega arith))
-    go false n = rw zero-add
+-- an ending is no child
+apart : (a b c : ℕ) → c < 2 ^ 64 → end_key a ≡ child_key b c → ⊥
+apart a b c h q = let z : ◌≡◌ {A = ℕ} 0 1 = sym (kind_end a) ∙ ap kind_of q ∙ kind_child b c h in omega arith
 
-pub seen_before : (k : ℕ) (ks : List ℕ) (j : ℕ) → j ≤ length ks → list_any (λ i. eqb k (get_or ks i 0)) (range_with_len 0 j) ≡ not (eqb (occurrences k (take j ks)) 0)
-seen_before k ks j h = seen_from k ks 0 j (omega arith)
+module _ (p : Steps) (ranks : Ranks p) (j : ℕ) (in_list : j + 1 < 2 * length p) where
+  abbrev listed : List ℕ
+  listed = listed_keys p
+
+  abbrev key : ℕ
+  key = get_or listed j 0
+
+  -- of two keys with an even and an odd number one is an ending and one a child
+  differ : (i : ℕ) → i < j → (i % 2 ≡ j % 2 → ⊥) → key ≡ get_or listed i 0 → ⊥
+  differ i h d q = go (j % 2) refl
+    where
+      go : (r : ℕ) → j % 2 ≡ r → ⊥
+      go zero e =
+          apart (get_or p (j / 2) 0) (get_or p (i / 2) 0) (get_or p (i / 2 + 1) 0) (ranks_at p (i / 2 + 1) (omega arith) ranks)
+          (sym (listed_even p j e in_list) ∙ q ∙ listed_odd p i (λ z. d (z ∙ sym e)) (omega arith))
+      go (suc r) e =
+          let even : i % 2 ≡ 0 = go_even (i % 2) refl in
+          apart (get_or p (i / 2) 0) (get_or p (j / 2) 0) (get_or p (j / 2 + 1) 0) (ranks_at p (j / 2 + 1) (omega arith) ranks)
+          (sym (listed_even p i even (omega arith)) ∙ sym q ∙ listed_odd p j (λ z. absurd (omega (arith, z, e))) in_list)
+        where
+          go_even : (t : ℕ) → i % 2 ≡ t → i % 2 ≡ 0
+          go_even zero f = f
+          go_even (suc t) f = absurd (d (omega (arith, e, f)))
+
+  unhit : (i : ℕ) → i < j → (i % 2 ≡ j % 2 → ⊥) → hit key (get_or listed i 0) ≡ 0
+  unhit i h d = rw (ne_eqb key (get_or listed i 0) (differ i h d))
+
+  -- looked for among the n keys numbered j - 2 (a + 1), j - 2 (a + 2), ..
+  seen_from : (a n : ℕ) → a + n ≡ j / 2 → list_any (λ m. eqb key (get_or listed (j - 2 * (m + 1)) 0)) (range_with_len a n) ≡ not (eqb (occurrences key (take (j - 2 * a) listed)) 0)
+  seen_from a zero h = rw (go (j - 2 * a) refl)
+    where
+      go : (r : ℕ) → j - 2 * a ≡ r → occurrences key (take r listed) ≡ 0
+      go zero e = occ_nil key
+      go (suc zero) e = ap (occurrences key) (take-suc listed 0 0 (omega (arith, length_listed p (omega arith)))) ∙ omega (arith, occ_nil key, occ_cons key (get_or listed 0 0) [], unhit 0 (omega arith) (λ z. omega arith))
+      go (suc (suc r)) e = absurd (omega arith)
+  seen_from a (suc n) h =
+      let u : ℕ = j - 2 * (a + 1) in
+      let at : j - 2 * a ≡ suc (suc u) = omega arith in
+      let len : length listed + 1 ≡ 2 * length p = length_listed p (omega arith) in
+      let one : occurrences key (take (suc u) listed) ≡ occurrences key (take u listed) + occurrences key (get_or listed u 0 ∷ []) =
+      ap (occurrences key) (take-suc listed u 0 (omega arith)) ∙ occ_append key (take u listed) (get_or listed u 0 ∷ []) in
+      let two : occurrences key (take (suc (suc u)) listed) ≡ occurrences key (take (suc u) listed) + occurrences key (get_or listed (suc u) 0 ∷ []) =
+      ap (occurrences key) (take-suc listed (suc u) 0 (omega arith)) ∙ occ_append key (take (suc u) listed) (get_or listed (suc u) 0 ∷ []) in
+      let both : occurrences key (take (j - 2 * a) listed) ≡ hit key (get_or listed u 0) + occurrences key (take u listed) =
+      ap (λ (t : ℕ). occurrences key (take t listed)) at ∙ omega (arith, one, two, occ_nil key, occ_cons key (get_or listed u 0) [], occ_cons key (get_or listed (suc u) 0) [], unhit (suc u) (omega arith) (λ z. omega arith)) in
+      rw (seen_from (a + 1) n (omega arith), both) (go (eqb key (get_or listed u 0)) (occurrences key (take u listed)))
+    where
+      go : (b : Bool) (n : ℕ) → b || not (eqb n 0) ≡ not (eqb (cond b 1 0 + n) 0)
+      go true n = rw (ne_eqb (1 + n) 0 (λ z. omega arith))
+      go false n = rw zero-add
+
+  pub seen_before : (k : ℕ) → k ≡ get_or listed j 0 → list_any (λ m. eqb k (get_or listed (j - 2 * (m + 1)) 0)) (range_with_len 0 (j / 2)) ≡ not (eqb (occurrences k (take j listed)) 0)
+  seen_before k is =
+      let all : j - 2 * 0 ≡ j = omega arith in
+      rw is (seen_from 0 (j / 2) (omega arith) ∙ ap (λ (t : ℕ). not (eqb (occurrences key (take t listed)) 0)) all)
 
 -- ---- a key that brings a row
 

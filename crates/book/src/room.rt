@@ -21,12 +21,14 @@ impl Path<'_> {
         key == self.lent().listed_key(i)
     }
 
-    // The key stands among the first j of those that it lists.
+    // This key, the one numbered j, stands among the first j of those that it lists. Endings have even numbers and children odd ones, so
+    // every second key is looked at, the nearest first: a path that stays at a node or goes to and fro repeats what it has just listed.
     fn lists_before(&self, j: usize, key: Key) -> bool
-        requires { j < 2 * length (path_of self.now.steps.now) }
+        requires in_list { j + 1 < 2 * length (path_of self.now.steps.now) }
+        requires numbered { key_value key ≡ get_or (listed_keys (path_of self.now.steps.now)) j 0 }
         ensures { result ≡ not (eqb (occurrences (key_value key) (take j (listed_keys (path_of self.now.steps.now)))) 0) }
     {
-        (0..j).any(|i| self.lists_at(i, key))
+        (0..j / 2).any(|back| self.lists_at(j - 2 * (back + 1), key))
     }
 }
 
