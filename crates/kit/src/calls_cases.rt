@@ -110,7 +110,7 @@ impl<'a> Play<'a> {
     // The answer tells first how many of the paths were taken.
     pub fn add_paths(&mut self, at: &mut Place) -> Option<bool> {
         let mut places = [0u8; 5160];
-        let places = bring_places(at, &mut places)?;
+        let places = bring_places(at, &mut places);
         let (taken, answer) = match self.lend(|t, book, queue| t.add_paths(book, queue, places))? {
             Ok(taken) => (taken, Ok(taken.tracker)),
             Err(stopped) => (stopped.taken, Err(stopped.reason)),

@@ -64,6 +64,18 @@ pub fn bring<'b, T: Recorded>(at: &mut Place, buffer: &'b mut [T]) -> Option<&'b
     Some(run)
 }
 
+// Brings the figures that come next to the start of a buffer, as many as it has room for, and gives that part.
+pub fn bring_most<'b>(at: &mut Place, buffer: &'b mut [f64]) -> &'b mut [f64] {
+    let n = at.count();
+    let most = n.min(buffer.len());
+    let run = &mut buffer[..most];
+    for x in run.iter_mut() {
+        *x = f64::read(at);
+    }
+    at.take(8 * (n - most));
+    run
+}
+
 // This run comes next.
 pub fn same_run<T: Recorded>(at: &mut Place, run: &[T]) -> bool {
     at.count() == run.len() && run.iter().all(|&x| is_next(at, x))

@@ -14,7 +14,7 @@ use priors::tables::LentTables;
 pub fn node_call(p: &Play, tables: &LentTables, priors: &LentPriors, at: &mut Place) -> bool {
     let node = at.address();
     let answer = posterior_kl_divergence(&p.seen(), tables, priors, node);
-    same_answer(at, answer, 3, |at, x| same_option(at, x, 2, is_next))
+    same_answer(at, answer, 3, |at, x| same_option(at, x, 3, is_next))
 }
 
 // The five figures and the two numbers come next. Figure by figure: a NaN is to be the same as a NaN, so no `==`.

@@ -69,44 +69,59 @@ fn zeros<const N: usize>() -> [u8; N] {
     [0u8; N]
 }
 
-fn main(rt: HostRuntime) -> io::Result<()> {
-    let mut book = [0u8; 1536];
-    let mut queue = [0u8; 4644];
-    let mut large_book = [0u8; 393240];
-    let mut large_queue = zeros::<528384>();
-    let mut small = Buffers {
+// The buffers of large.bin and of the openings at their bounds are made by functions of their own, which stay apart, as the records of
+// priors_bounds do: so they lie on the stack while these run and no longer.
+#[inline(never)]
+fn large_calls(rt: &HostRuntime) -> io::Result<()> {
+    let mut book = [0u8; 393240];
+    let mut queue = zeros::<528384>();
+    let mut large = Buffers {
         book: &mut book,
         queue: &mut queue,
     };
+    recorded::<16384, _>(rt, "large calls", "large.bin", |tape| {
+        readings_cases::replay(tape, b"TPL1", 2, &mut large)
+    })
+}
+
+#[inline(never)]
+fn openings() -> Tally {
+    let mut book = [0u8; 393240];
+    let mut queue = zeros::<528384>();
     let mut large = Buffers {
-        book: &mut large_book,
-        queue: &mut large_queue,
+        book: &mut book,
+        queue: &mut queue,
+    };
+    book_bounds::openings(&mut large)
+}
+
+fn main(rt: HostRuntime) -> io::Result<()> {
+    let mut book = [0u8; 1536];
+    let mut queue = [0u8; 4644];
+    let mut small = Buffers {
+        book: &mut book,
+        queue: &mut queue,
     };
     println!(&rt; "figures: {}", figures::compared())?;
     recorded::<32768, _>(&rt, "priors", "priors.bin", priors_cases::replay)?;
     println!(&rt; "priors at their bounds: {}", priors_bounds::run())?;
     recorded::<65536, _>(&rt, "calls", "calls.bin", |tape| {
-        readings_cases::replay(tape, b"TPC1", &mut small)
+        readings_cases::replay(tape, b"TPC1", 2, &mut small)
     })?;
-    recorded::<16384, _>(&rt, "large calls", "large.bin", |tape| {
-        readings_cases::replay(tape, b"TPL1", &mut large)
-    })?;
+    large_calls(&rt)?;
     recorded::<65536, _>(&rt, "altered memory", "altered.bin", |tape| {
         altered_cases::replay(tape, &mut small)
     })?;
     recorded::<131072, _>(&rt, "readings", "readings.bin", |tape| {
-        readings_cases::replay(tape, b"TPR1", &mut small)
+        readings_cases::replay(tape, b"TPR1", 11, &mut small)
     })?;
     recorded::<65536, _>(&rt, "tidies", "tidies.bin", |tape| {
-        readings_cases::replay(tape, b"TPY1", &mut small)
+        readings_cases::replay(tape, b"TPY1", 11, &mut small)
     })?;
     recorded::<65536, _>(&rt, "batches", "batches.bin", |tape| {
-        readings_cases::replay(tape, b"TPB1", &mut small)
+        readings_cases::replay(tape, b"TPB1", 11, &mut small)
     })?;
     recorded::<81920, _>(&rt, "training", "training.bin", training_cases::replay)?;
-    println!(&rt;
-        "openings at their bounds: {}",
-        book_bounds::openings(&mut large)
-    )?;
+    println!(&rt; "openings at their bounds: {}", openings())?;
     println!(&rt; "paths at their bounds: {}", book_bounds::paths())
 }

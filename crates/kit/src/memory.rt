@@ -1,5 +1,5 @@
 // Lent bytes: their sum, and bringing and comparing them, recorded as bytes or as places of 516 bytes.
-use crate::tape::Place;
+use crate::tape::{Place, first_of};
 use entries::limits::PLACE_SIZE;
 
 // The buffers that a book and a queue are lent from.
@@ -32,10 +32,12 @@ pub fn sum_of(s: &[u8]) -> u32 {
     })
 }
 
-// A place as it is recorded: its bytes, and those of the word that fills the rest.
+// A place as it is recorded: the bytes of so many words, and those of the word that fills the rest. A word that the file is cut off
+// before is 0, here too.
 #[derive(Clone, Copy)]
 struct Part<'a> {
     bytes: &'a [u8],
+    words: usize,
     filling: [u8; 4],
 }
 
@@ -43,15 +45,22 @@ impl<'a> Part<'a> {
     fn read(at: &mut Place<'a>) -> Part<'a> {
         let filling = at.word().to_le_bytes();
         let words = at.count();
+        let bytes = at.take(4 * words);
         Part {
-            bytes: at.take(4 * words),
+            bytes: first_of(bytes, bytes.len() / 4 * 4),
+            words,
             filling,
         }
     }
 
     // The byte numbered i from 0.
     fn byte(self, i: usize) -> u8 {
-        self.bytes.get(i).copied().unwrap_or(self.filling[i % 4])
+        let other = if i / 4 < self.words {
+            0
+        } else {
+            self.filling[i % 4]
+        };
+        self.bytes.get(i).copied().unwrap_or(other)
     }
 
     // The bytes of a place, or of the front of one.
@@ -76,19 +85,36 @@ pub fn same_places(at: &mut Place, s: &[u8]) -> bool {
             .all(|place| Part::read(at).is_same(place))
 }
 
-// Brings the places that come next to the start of a buffer and gives that part, if the buffer is long enough.
-pub fn bring_places<'b>(at: &mut Place, buffer: &'b mut [u8]) -> Option<&'b mut [u8]> {
-    let s = buffer.get_mut(..at.count())?;
+// Brings the places that come next to the start of a buffer, as many bytes as it has room for, and gives that part.
+pub fn bring_places<'b>(at: &mut Place, buffer: &'b mut [u8]) -> &'b mut [u8] {
+    let n = at.count();
+    let most = n.min(buffer.len());
+    let s = &mut buffer[..most];
     for place in s.chunks_mut(PLACE_SIZE) {
         Part::read(at).put(place);
     }
-    Some(s)
+    for _ in most.div_ceil(PLACE_SIZE)..n.div_ceil(PLACE_SIZE) {
+        Part::read(at);
+    }
+    s
 }
 
-// The same of bytes.
-pub fn bring_bytes<'b>(at: &mut Place, buffer: &'b mut [u8]) -> Option<&'b mut [u8]> {
+// The same of bytes. Those that the file is cut off before stay as the buffer has them.
+pub fn bring_most_bytes<'b>(at: &mut Place, buffer: &'b mut [u8]) -> &'b mut [u8] {
+    let n = at.next_count();
     let bytes = at.bytes();
-    let s = buffer.get_mut(..bytes.len())?;
-    s.copy_from_slice(bytes);
-    Some(s)
+    let most = n.min(buffer.len());
+    let s = &mut buffer[..most];
+    for (byte, &from) in s.iter_mut().zip(bytes) {
+        *byte = from;
+    }
+    s
+}
+
+// The same, if the buffer has room for all.
+pub fn bring_bytes<'b>(at: &mut Place, buffer: &'b mut [u8]) -> Option<&'b mut [u8]> {
+    if buffer.len() < at.next_count() {
+        return None;
+    }
+    Some(bring_most_bytes(at, buffer))
 }

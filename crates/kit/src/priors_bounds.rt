@@ -207,6 +207,7 @@ fn tables(t: Tally) -> Tally {
     ])
 }
 
+#[inline(never)]
 pub fn run() -> Tally {
     let mut nodes = [[0u8; RECORD_SIZE]; 4097];
     let mut children = [[0u8; RECORD_SIZE]; 16385];

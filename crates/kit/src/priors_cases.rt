@@ -1,6 +1,5 @@
 // Replays priors.bin: what the checks of tables and of prior records say, and what look-ups in accepted ones find.
 use crate::figures::{bring, is_next};
-use crate::refusals::{same_option, same_told};
 use crate::tallies::{self, Tally};
 use crate::tape::Place;
 use priors::lookups::Priors;
@@ -13,17 +12,25 @@ fn chain_length(prior: Prior) -> u32 {
     prior.child(u64::MAX).read
 }
 
-// A look-up comes next, and then what it finds.
+// A look-up comes next, and then what it finds; zeros for what is not there.
 fn same_lookup(at: &mut Place, priors: &Priors) -> bool {
     let node = at.rank();
     let child = at.rank();
-    same_option(at, priors.prior(node), 5, |at, prior| {
-        let looked = prior.child(child);
-        at.word() == prior.node.count
-            && at.word() == chain_length(prior)
-            && same_option(at, looked.count, 1, is_next)
-            && at.word() == looked.read
-    })
+    let found = match priors.prior(node) {
+        Some(prior) => {
+            let looked = prior.child(child);
+            [
+                1,
+                prior.node.count,
+                chain_length(prior),
+                u32::from(looked.count.is_some()),
+                looked.count.unwrap_or(0),
+                looked.read,
+            ]
+        }
+        None => [0; 6],
+    };
+    found.iter().all(|&n| is_next(at, n))
 }
 
 // So many look-ups come next.
@@ -34,7 +41,12 @@ fn same_lookups(at: &mut Place, priors: Priors) -> bool {
 // Priors, the number of their refusal, and look-ups.
 fn same_priors(at: &mut Place) -> bool {
     let checked = at.priors().check();
-    at.word() == number(checked) && same_told(at, checked.ok(), 1, same_lookups) && at.is_at_end()
+    at.word() == number(checked)
+        && match checked {
+            Ok(priors) => same_lookups(at, priors),
+            Err(_) => at.word() == 0,
+        }
+        && at.is_at_end()
 }
 
 // Tables, and the number of their refusal.

@@ -13,7 +13,7 @@ fn named_rank(r: Refusal) -> u64 {
 }
 
 // This refusal comes next, or none.
-fn same_refusal(at: &mut Place, refused: Option<Refusal>) -> bool {
+pub fn same_refusal(at: &mut Place, refused: Option<Refusal>) -> bool {
     at.word() == refused.map_or(0, u32::from) && at.rank() == refused.map_or(rank(0, 0), named_rank)
 }
 
@@ -32,7 +32,7 @@ pub fn same_told<T: Copy, F: FnOnce(&mut Place, T) -> bool>(
     }
 }
 
-// Whether it is told comes next, and then the same.
+// Whether it is told comes next, and then what is told; so many zeros in all where nothing is.
 pub fn same_option<T: Copy, F: FnOnce(&mut Place, T) -> bool>(
     at: &mut Place,
     told: Option<T>,
@@ -41,7 +41,10 @@ pub fn same_option<T: Copy, F: FnOnce(&mut Place, T) -> bool>(
 ) -> bool
     requires { F.IsAlwaysCallable same }
 {
-    at.word() == u32::from(told.is_some()) && same_told(at, told, words, same)
+    match told {
+        Some(x) => at.word() == 1 && same(at, x),
+        None => at.zeros(words),
+    }
 }
 
 // A refusal comes next, or none, and then the same.

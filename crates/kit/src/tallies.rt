@@ -35,8 +35,8 @@ impl fmt::Display for Tally {
     }
 }
 
-// Replays each case of a tape that begins with these letters. A case for which there is no answer, since it is cut off or holds what no
-// file does, does not agree either.
+// Replays each case of a tape that begins with these letters. A case for which there is no answer, since it holds what no file does, does
+// not agree either.
 pub fn replay<F: FnMut(&mut Place) -> Option<bool>>(
     tape: &[u8],
     letters: &[u8; 4],
@@ -50,12 +50,8 @@ pub fn replay<F: FnMut(&mut Place) -> Option<bool>>(
         return tally;
     }
     for _ in 0..at.word() {
-        // No `and_then`: a call within its closure wants an invariant of the loop, and this one doesn't.
-        let agrees = match at.case() {
-            Some(mut case) => same_case(&mut case),
-            None => None,
-        };
-        tally = tally.with(agrees.unwrap_or(false));
+        let mut case = at.case();
+        tally = tally.with(same_case(&mut case).unwrap_or(false));
     }
     tally
 }

@@ -5,12 +5,16 @@ ghost use Rattle.std.specs.Prelude.{◌^◌, ◌<◌};
 use priors::addresses::{Address, rank};
 use priors::lookups::LentPriors;
 
-// A place in a tape, counted in bytes. Each piece of data/README.md that is read there moves it on to the next. Where a piece differs
-// from what it should be, its case is over, and no more of it is read.
+// No place is past this one; the files are far shorter.
+const LAST: usize = 4194304;
+
+// A place in a tape, counted in bytes, and the place where its case ends. Each piece of data/README.md that is read there moves it on to
+// the next. Where a piece differs from what it should be, its case is over, and no more of it is read.
 #[derive(Clone, Copy)]
 pub struct Place<'a> {
     tape: &'a [u8],
     at: usize,
+    end: usize,
 }
 
 // The first n, or all where there are fewer.
@@ -20,13 +24,22 @@ pub fn first_of<T>(s: &[T], n: usize) -> &[T] {
 
 impl<'a> Place<'a> {
     pub fn start(tape: &'a [u8]) -> Place<'a> {
-        Place { tape, at: 0 }
+        Place {
+            tape,
+            at: 0,
+            end: tape.len(),
+        }
+    }
+
+    // The start of the file.
+    pub fn first(&self) -> Place<'a> {
+        Place::start(self.tape)
     }
 
     // The next n bytes, fewer where the tape ends before.
     pub fn take(&mut self, n: usize) -> &'a [u8] {
         let rest = self.tape.get(self.at..).unwrap_or(&[]);
-        self.at = self.at.saturating_add(n);
+        self.at = self.at.saturating_add(n).min(LAST);
         first_of(rest, n)
     }
 
@@ -43,6 +56,14 @@ impl<'a> Place<'a> {
         self.word() as usize
     }
 
+    // The count that comes next, not yet read.
+    pub fn next_count(&self) -> usize
+        ensures { result < 2 ^ 32 }
+    {
+        let mut ahead = *self;
+        ahead.count()
+    }
+
     pub fn bytes(&mut self) -> &'a [u8] {
         let n = self.count();
         first_of(self.take(n.next_multiple_of(4)), n)
@@ -50,19 +71,23 @@ impl<'a> Place<'a> {
 
     // So many words that are all 0.
     pub fn zeros(&mut self, words: usize) -> bool {
-        (0..words).all(|_| self.word() == 0)
+        self.take(words.saturating_mul(4))
+            .iter()
+            .all(|&byte| byte == 0)
     }
 
-    // A case, as a tape of its own, if all of it is there.
-    pub fn case(&mut self) -> Option<Place<'a>> {
-        let n = 4 * self.count();
-        let case = self.take(n);
-        (case.len() == n).then_some(Place::start(case))
+    // A case, which its number of words begins. What the file is cut off before is read as missing, as anywhere.
+    pub fn case(&mut self) -> Place<'a> {
+        let n = self.count();
+        let mut case = *self;
+        self.take(4 * n);
+        case.end = self.at;
+        case
     }
 
-    // All was read, and no more than there is.
+    // All of the case was read, and no more.
     pub fn is_at_end(&self) -> bool {
-        self.at == self.tape.len()
+        self.at == self.end
     }
 
     // The rank of an address.

@@ -26,7 +26,7 @@ fn at_address<R: FnOnce(Address, &mut Output) -> Result<Option<ProbVector>, Reas
     lend_output(
         at,
         |output| read(node, output),
-        |at, answer| same_answer(at, answer, 4, |at, v| same_option(at, v, 3, same_parts)),
+        |at, answer| same_answer(at, answer, 4, |at, v| same_option(at, v, 4, same_parts)),
     )
 }
 
