@@ -92,7 +92,7 @@ module _ (a : ℕ) where
   listed p h (later {r} {rs} l s) = passed r rs p.0 (λ e. omega arith) ∙ listed p.1 (ascends_from 0 (suc r.key) (keys rs) (omega arith) h.1) s
 
   module _ (rs : List Row) (form : formed rs ≡ true) where
-    found_missing : (i : ℕ) → Err i ≡ find_in rs (end_key a) → evidence_of a (listed_nodes rs) ≡ None
+    pub found_missing : (i : ℕ) → Err i ≡ find_in rs (end_key a) → evidence_of a (listed_nodes rs) ≡ None
     unfolding find_in
     found_missing i e = go (holds rs (place rs (end_key a)) (end_key a)) (spot (end_key a) rs) e
       where
@@ -100,7 +100,7 @@ module _ (a : ℕ) where
         go true s e = let z : ◌≡◌ {A = ℕ} 0 1 = cc in absurd (omega arith)
         go false s e = listed (formed_plain rs form) (formed_ascends rs form) s
 
-    found_listed : (i : ℕ) → Ok i ≡ find_in rs (end_key a) → (i < length rs) × (evidence_of a (listed_nodes rs) ≡ Some (evidence_here rs i))
+    pub found_listed : (i : ℕ) → Ok i ≡ find_in rs (end_key a) → (i < length rs) × (evidence_of a (listed_nodes rs) ≡ Some (evidence_here rs i))
     unfolding find_in
     found_listed i e = go (holds rs (place rs (end_key a)) (end_key a)) (spot (end_key a) rs) e
       where
@@ -170,7 +170,7 @@ module _ (book : List ℕ) (used : ℕ) (form : formed (rows book used) ≡ true
   after : drop (suc i) (rows book used) ≡ part book (i + 1) used
   after = let one : suc i ≡ i + 1 = omega arith in rw one (rows_drop book used (i + 1) (omega (arith, in_use)))
 
-  listed_end : (i < last book used i) × (last book used i ≤ used)
+  pub listed_end : (i < last book used i) × (last book used i ≤ used)
   listed_end = (omega arith, end_le book (i + 1) used (omega (arith, in_use)))
 
   children_are : (spread (drop (suc i) (rows book used))).0 ≡ map child_row (part book (i + 1) (last book used i))
@@ -181,11 +181,11 @@ module _ (book : List ℕ) (used : ℕ) (form : formed (rows book used) ≡ true
       ∙ ap (λ (k : ℕ). map child_row (rows (drop (24 * (i + 1)) book) k)) count
 
   -- of an entry of a book that has the form: the children after it ascend
-  listed_ascend : Ascends 0 (keys (map child_row (part book (i + 1) (last book used i))))
+  pub listed_ascend : Ascends 0 (keys (map child_row (part book (i + 1) (last book used i))))
   listed_ascend = rw children_are at (ascend_after (get_or (rows book used) i blank).key 0 (drop (suc i) (rows book used)) (formed_at (rows book used) i form (omega (arith, in_use, length_rows book used))) (λ j l n z. omega arith))
 
   -- of the ending of the address a
-  listed_is : (a : ℕ) → Ok i ≡ find_in (rows book used) (end_key a) → evidence_of a (listed_nodes (rows book used)) ≡ Some (evidence_at book i (last book used i))
+  pub listed_is : (a : ℕ) → Ok i ≡ find_in (rows book used) (end_key a) → evidence_of a (listed_nodes (rows book used)) ≡ Some (evidence_at book i (last book used i))
   unfolding row_at
   listed_is a is =
       let ending : (get_or (rows book used) i blank).count ≡ (evidence_at book i (last book used i)).ending = ap (λ (r : Row). r.count) (get_d_rows book used i blank in_use) in

@@ -8,7 +8,7 @@ use Rattle.priors.specs.Refusals.{reason_number}
 use Rattle.priors.specs.Rows.{keys, Ascends}
 use Rattle.priors.specs.Priors.{Counts, chain, chain_of, every_child, next_link_fits, prior_of_node, prior_of, total, priors_refusal}
 use Rattle.priors.proofs.RuleLaws.{names_none, priors_unnamed}
-use Rattle.entries.specs.Entries.{rows}
+use Rattle.entries.specs.Entries.{rows, entry_count_at}
 use Rattle.divergence.specs.Nodes.{Node, child_row, evidence_of}
 use Rattle.divergence.specs.Parts.{part, evidence_at}
 use Rattle.divergence.specs.Probability.{with_evidence, posterior, prob_vector, with_total, evidence_prob_vector}
@@ -25,11 +25,11 @@ module _ (have : ℕ) (c : Counts) where
 
 -- ---- prior and evidence as a merge
 
-pub posterior_listed : (children book : List ℕ) (n : Record) (i to : ℕ) → (posterior (prior_of_node children n) (Some (evidence_at book i to))).children ≡ merged_from children n.link book (i + 1) to
+pub posterior_listed : (children book : List ℕ) (n : Record) (i to : ℕ) → posterior (prior_of_node children n) (Some (evidence_at book i to)) ≡ record { ending = n.count + entry_count_at book i; children = merged_from children n.link book (i + 1) to }
 unfolding posterior merged_from
 posterior_listed children book n i to = refl
 
-pub posterior_unlisted : (children book : List ℕ) (n : Record) → (posterior (prior_of_node children n) None).children ≡ merged_from children n.link book 0 0
+pub posterior_unlisted : (children book : List ℕ) (n : Record) → posterior (prior_of_node children n) None ≡ record { ending = n.count; children = merged_from children n.link book 0 0 }
 unfolding posterior merged_from with_evidence rows
 posterior_unlisted children book n = refl
 
@@ -43,9 +43,9 @@ pub no_chain_length : length (chain_of [] 0) ≡ 0
 unfolding chain_of chain
 no_chain_length = refl
 
-pub evidence_merged : (book : List ℕ) (i to : ℕ) → Ascends 0 (keys (map child_row (part book (i + 1) to))) → (evidence_at book i to).children ≡ merged_from [] 0 book (i + 1) to
+pub evidence_merged : (book : List ℕ) (i to : ℕ) → Ascends 0 (keys (map child_row (part book (i + 1) to))) → evidence_at book i to ≡ record { ending = entry_count_at book i; children = merged_from [] 0 book (i + 1) to }
 unfolding merged_from chain_of chain
-evidence_merged book i to h = sym (evidence_alone 0 (map child_row (part book (i + 1) to)) h)
+evidence_merged book i to h = λ j. record { ending = entry_count_at book i; children = sym (evidence_alone 0 (map child_row (part book (i + 1) to)) h) j }
 
 module _ (e : Counts) where
   pub total_none : total e ≡ 0 → evidence_prob_vector (Some e) ≡ None

@@ -13,7 +13,7 @@ use lib.ListN.{length, get_or}
 use lib.Signed.{lt_z}
 use mir.Syntax.{w32}
 use mir.Val.{to_z, of_z, SFits}
-use mir.ValLaws.{to_z-of_z, of_z_fits}
+use mir.ValLaws.{to_z-of_z, of_z-to_z, of_z_fits}
 use borrow.Author.Tests.{ltb-true, lt-ltb, le-ltb, eqb-true, eq-eqb}
 use Rattle.priors.specs.declared.records.Record.{Record}
 use Rattle.priors.specs.Address.{rank, rank_of, lift}
@@ -32,7 +32,10 @@ below_floor s p floor f h g =
     let high : rank_of s p / 2 ^ 32 ≡ lift (of_z w32 s) = omega (arith, lift_lt (of_z w32 s)) in
     ap (λ (n : ℕ). ltb n (layer_of floor)) high ∙ sym (lift_signed s floor f g)
 
--- the layer of a floor has that floor
+-- a layer has one floor, and a floor one layer
+pub layer_back : (layer : ℕ) → layer < 2 ^ 32 → layer_of (floor_of layer) ≡ layer
+layer_back layer l = ap lift (of_z-to_z w32 (lift layer) (record { fits = lift_lt layer })) ∙ lift_back layer l
+
 pub floor_back : (floor : ℤ) → SFits w32 floor → floor_of (layer_of floor) ≡ floor
 floor_back floor f = ap (to_z w32) (lift_back (of_z w32 floor) (omega (arith, of_z_fits w32 floor f))) ∙ to_z-of_z w32 floor f
 

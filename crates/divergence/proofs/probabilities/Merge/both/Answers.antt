@@ -1,5 +1,6 @@
 -- `both` meets its contract: the entries of the evidence are merged with the prior's chain.
-use Rattle.std.proofs.Common.{◌+◌, sym, arith}
+use Rattle.std.proofs.Common.{◌+◌, sym, ap, arith}
+use Rattle.priors.specs.Priors.{Counts}
 use Rattle.divergence.proofs.MergeLaws.{merged_few}
 use Rattle.divergence.proofs.VectorLaws.{posterior_listed}
 use Rattle.divergence.proofs.probabilities.Merge.both.Goals as goal
@@ -8,7 +9,7 @@ pub returns-clause-left : goal.returns-clause-left
 returns-clause-left c =
     let p = c.args.prior.now in
     let e = c.args.listed.evidence in
-    sym (posterior_listed p.children.now e.entries.bytes.now p.node e.ending e.entries.used)
+    sym (ap (λ (n : Counts). n.children) (posterior_listed p.children.now e.entries.bytes.now p.node e.ending e.entries.used))
 
 pub returns-clause-few : goal.returns-clause-few
 returns-clause-few c =

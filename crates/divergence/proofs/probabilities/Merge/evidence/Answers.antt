@@ -1,5 +1,6 @@
 -- `evidence` meets its contract: with no chain the merge has the evidence alone.
-use Rattle.std.proofs.Common.{◌+◌, [], sym, arith}
+use Rattle.std.proofs.Common.{◌+◌, [], sym, ap, arith}
+use Rattle.priors.specs.Priors.{Counts}
 use Rattle.divergence.proofs.MergeLaws.{merged_few}
 use Rattle.divergence.proofs.VectorLaws.{no_links, no_chain_length, evidence_merged}
 use Rattle.divergence.proofs.probabilities.Merge.evidence.Goals as goal
@@ -12,7 +13,7 @@ invariant_of-result c =
 pub returns-clause-left : goal.returns-clause-left
 returns-clause-left c =
     let e = c.args.listed.evidence in
-    sym (evidence_merged e.entries.bytes.now e.ending e.entries.used c.args.listed.ascending)
+    sym (ap (λ (n : Counts). n.children) (evidence_merged e.entries.bytes.now e.ending e.entries.used c.args.listed.ascending))
 
 pub returns-clause-few : goal.returns-clause-few
 returns-clause-few c =
